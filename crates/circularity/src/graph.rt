@@ -106,3 +106,81 @@ fn child_edges<L: Language>(language: &L, production: u8, choice: Choice, k: u8,
     }
     0
 }
+
+// The local graph of a production.
+fn local_rows<L: Language>(language: &L, production: u8, choice: Choice) -> [u16; 16]
+    requires { ⌜ production < grammar (now language) .productions ⌝ }
+    ensures { λ r. ⌜ r ≡ rows-of (grammar (now (language .entry))) production choice ⌝ }
+{
+    let mut rows = [0u16; 16];
+    for v in 0..16u8 {
+        rows[v as usize] = if v < 4 {
+            parent_edges(language, production, v)
+        } else {
+            child_edges(language, production, choice, v / 4 - 1, v % 4)
+        };
+    }
+    rows
+}
+
+// Every row that has an edge to vertex m takes over m's edges.
+fn go_through(rows: &mut [u16], m: usize)
+    requires { ⌜ m < 16 ⌝ ∗ ⌜ m < length (now rows) ⌝ }
+    ensures { λ _. ⌜ now (rows .exit) ≡ taken-through m (now (rows .entry)) ⌝ }
+{
+    let edges = rows[m];
+    for row in rows.iter_mut() {
+        if has(*row, m) {
+            *row |= edges;
+        }
+    }
+}
+
+// The closure of a graph: an edge wherever there was a way.
+fn close(rows: &mut [u16])
+    requires { ⌜ length (now rows) ≡ 16 ⌝ }
+    ensures { λ _. ⌜ now (rows .exit) ≡ closed-below 16 (now (rows .entry)) ⌝ }
+{
+    for m in 0..16usize {
+        go_through(rows, m);
+    }
+}
+
+// Whether a closed graph has a cycle.
+fn has_cycle(rows: &[u16]) -> bool
+    requires { ⌜ length (now rows) ≡ 16 ⌝ }
+    ensures { λ r. ⌜ r ≡ cyclic-below (now (rows .entry)) 16 ⌝ }
+{
+    let mut cyclic = false;
+    for v in 0..16usize {
+        cyclic = cyclic | has(rows[v], v);
+    }
+    cyclic
+}
+
+// The relation that a closed graph gives the production's own symbol, with h inherited and s synthesized attributes.
+fn own_relation(rows: &[u16], h: u8, s: u8) -> u16
+    requires { ⌜ length (now rows) ≡ 16 ⌝ ∗ ⌜ h + s ≤ 4 ⌝ }
+    ensures { λ r. ⌜ r ≡ relation-in (now (rows .entry)) h s ⌝ }
+{
+    let mut relation = 0u16;
+    for j in 0..s {
+        relation |= (rows[(h + j) as usize] % (1 << h)) << (h * j);
+    }
+    relation
+}
+
+// What one choice of the children's relations gives.
+pub fn work_out<L: Language>(language: &L, production: u8, choice: Choice) -> Outcome
+    requires { ⌜ production < grammar (now language) .productions ⌝ }
+    ensures { λ r. ⌜ r ≡ outcome-of (grammar (now (language .entry))) production choice ⌝ }
+{
+    let mut rows = local_rows(language, production, choice);
+    close(&mut rows);
+    let symbol = language.symbol(production);
+    let relation = own_relation(&rows, language.inherited(symbol), language.synthesized(symbol));
+    Outcome {
+        relations: 1 << relation,
+        cyclic: has_cycle(&rows),
+    }
+}
