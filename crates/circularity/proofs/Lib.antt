@@ -1,2 +1,4 @@
 pub mod Local
 pub mod TreePaths
+pub mod Cycles
+pub mod Unique

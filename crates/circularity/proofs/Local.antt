@@ -1,13 +1,13 @@
 -- The graph of one production: its own rules, and the relations of the trees at its children's places, given as any relation.
 -- With it the general facts on ways of one or more steps.
-use mathlib.Core.Path.{_≡_, refl, sym, ap, _∙_}
-use mathlib.Core.List.{List, [], _∷_}
+use mathlib.Core.Path.{_≡_}
+use mathlib.Core.List.{[], _∷_}
 use mathlib.Core.Logic.{_⊎_, inl, inr}
-use Prim.Native.Nat.{ℕ, zero, suc, _+_, _≤_, _<_}
-use lib.ListN.{length, getD}
+use Prim.Native.Nat.{ℕ, _≤_, _<_}
+use lib.ListN.{length}
 use Rattle.grammar.specs.Grammar.{Grammar, attributes, child}
 use Rattle.grammar.specs.Tree.{Tree, hanging}
-use Rattle.grammar.specs.Dependence.{Instance, instance, WaitsBy, Waits, Over, one, then}
+use Rattle.grammar.specs.Dependence.{Instance, instance, WaitsBy, Over, one, then}
 use Rattle.grammar.specs.Circularity.{Related}
 
 -- One step between figures of a production: its own rule, or a pair of the relation at a child's place.

@@ -1,15 +1,14 @@
 -- The ways in a tree between figures of its root's production are the ways in the production's own graph.
 use mathlib.Core.Path.{_≡_, refl, sym, ap, subst, _∙_}
-use mathlib.Core.List.{List, [], _∷_}
+use mathlib.Core.List.{[], _∷_}
 use mathlib.Core.Logic.{_⊎_, inl, inr}
-use Prim.Native.Nat.{ℕ, zero, suc, _+_, _≤_, _<_}
+use Prim.Native.Nat.{ℕ, zero, suc, _≤_, _<_}
 use lib.IntN.{ℤ}
-use lib.ListN.{length, getD}
+use lib.ListN.{length}
 use native.Mathlib.Omega.{arith}
 use Rattle.grammar.specs.Grammar.{Grammar, attributes, child, Given}
-use Rattle.grammar.specs.Tree.{Tree, none, node, hanging, TreeOf, RootedBy}
-use Rattle.grammar.specs.Dependence.{Instance, instance, under, at-root, WaitsBy, WaitsAtRoot, Waits, inside, Over, one, then}
-use Rattle.grammar.specs.Circularity.{Related}
+use Rattle.grammar.specs.Tree.{Tree, none, node, hanging, TreeOf}
+use Rattle.grammar.specs.Dependence.{Instance, instance, under, at-root, WaitsAtRoot, Waits, inside, Over, one, then}
 use Rattle.circularity.proofs.Local.{LocalStep, via, Exact, Star, over-trans, over-map, first-step, star-then, then-star, star-trans}
 
 -- a figure below child place k is none of the root's
