@@ -1,2 +1,10 @@
 pub mod Small
+pub mod Bits
+pub mod Closure
+pub mod Fields
+pub mod Members
 pub mod Rows
+pub mod Local
+pub mod TreePaths
+pub mod Cycles
+pub mod Unique
