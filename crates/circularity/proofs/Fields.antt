@@ -1,5 +1,5 @@
 -- Numbers as rows of fields of h bits each: what a packed number's fields are, and that the fields tell numbers apart.
-use mathlib.Core.Logic.{_⊎_, inl, inr}
+use mathlib.Core.Logic.{inl, inr}
 use mathlib.Core.Path.{_≡_, sym, ap, ap₂, _∙_, subst}
 use Prim.Native.Nat.{ℕ, zero, suc, _+_, _-_, _*_, _/_, _%_, _^_, _≤_, _<_}
 use native.Mathlib.Nat.{mod-lt, mod-eq-of-lt, mul-suc, mul-zero, zero-mul, mul-le-mul-left, add-comm}
