@@ -2,6 +2,7 @@ pub mod Small
 pub mod Bits
 pub mod Closure
 pub mod Fields
+pub mod Members
 pub mod Rows
 pub mod Local
 pub mod TreePaths
