@@ -1,7 +1,7 @@
 -- The rows of a local graph, case by case.
 use mathlib.Core.Path.{_≡_, refl, sym, ap, _∙_}
 use mathlib.Core.List.{List}
-use Prim.Native.Nat.{ℕ, _+_, _-_, _*_, _^_, _%_, _≤_, _<_}
+use Prim.Native.Nat.{ℕ, _+_, _-_, _*_, _^_, _/_, _%_, _≤_, _<_}
 use lib.Dec.{ltb}
 use lib.ListN.{length, getD}
 use Rattle.std.proofs.shelf.Lists.{getD-default}
@@ -64,3 +64,10 @@ module _ (g : Grammar) (p : ℕ) (c : Choice) (k a : ℕ) (symbols : List ℕ) (
   asked-past s s-is above past =
       let s-is′ : s ≡ g .synthesized (child g p k) = s-is ∙ ap (g .synthesized) symbol-is in
       sym (child-past g p c k a inside-is (rw (← inherited-is) above) (rw (← inherited-is, ← s-is′) past))
+
+module _ (g : Grammar) (p : ℕ) (c : Choice) (v : ℕ) where
+  pub row-of-parent : v < 4 → row-of g p c v ≡ parent-row g p v
+  row-of-parent h = rw (lt-ltb v 4 h)
+
+  pub row-of-child : 4 ≤ v → row-of g p c v ≡ child-row g p c (v / 4 - 1) (v % 4)
+  row-of-child h = rw (le-ltb v 4 h)

@@ -3,7 +3,8 @@
 ghost use mathlib.Core.Path.{_≡_};
 ghost use Prim.Native.Nat.{ℕ, _+_, _*_, _^_, _/_, _%_, _<_, _≤_};
 ghost use lib.ListN.{length};
-ghost use lib.Dec.{eqb};
+ghost use lib.Bits.{bitOr};
+ghost use mathlib.Core.Bool.{true, false};
 ghost use Rattle.grammar.specs.Grammar.{Grammar, arguments};
 ghost use Rattle.circularity.specs.Bits.{has as has-bit, through as taken-through, closed-below, field};
 ghost use Rattle.circularity.specs.Working.{vertex as vertex-of, bits-of, chosen, parent-row, child-row, rows-of, cyclic-below, relation-in, outcome-of};
@@ -123,6 +124,14 @@ fn local_rows<L: Language>(language: &L, production: u8, choice: Choice) -> [u16
     rows
 }
 
+// A row of edges that takes over vertex m's edges if it has an edge to m.
+fn extended(row: u16, m: usize, edges: u16) -> u16
+    requires { ⌜ m < 16 ⌝ }
+    ensures { λ r. ⌜ r ≡ elim (has-bit row m) [ true ↦ bitOr row edges | false ↦ row ] ⌝ }
+{
+    if has(row, m) { row | edges } else { row }
+}
+
 // Every row that has an edge to vertex m takes over m's edges.
 fn go_through(rows: &mut [u16], m: usize)
     requires { ⌜ m < 16 ⌝ ∗ ⌜ m < length (now rows) ⌝ }
@@ -130,9 +139,7 @@ fn go_through(rows: &mut [u16], m: usize)
 {
     let edges = rows[m];
     for row in rows.iter_mut() {
-        if has(*row, m) {
-            *row |= edges;
-        }
+        *row = extended(*row, m, edges);
     }
 }
 
