@@ -9,3 +9,4 @@ pub mod TreePaths
 pub mod Cycles
 pub mod Unique
 pub mod Turns
+pub mod Gathers

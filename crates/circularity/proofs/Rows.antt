@@ -4,11 +4,11 @@ use mathlib.Core.List.{List}
 use Prim.Native.Nat.{ℕ, _+_, _-_, _*_, _^_, _/_, _%_, _≤_, _<_}
 use lib.Dec.{ltb}
 use lib.ListN.{length, getD}
-use Rattle.std.proofs.shelf.Lists.{getD-default}
 use Rattle.std.proofs.shelf.Tests.{lt-ltb, le-ltb}
 use Rattle.grammar.specs.Grammar.{Grammar, child, arguments}
 use Rattle.circularity.specs.declared.graph.Choice.{Choice}
 use Rattle.circularity.specs.Bits.{field}
+use Rattle.circularity.proofs.Small.{symbol-asked}
 use Rattle.circularity.specs.Working.{bits-of, chosen, parent-row, child-row, row-of}
 
 
@@ -45,7 +45,7 @@ module _ (g : Grammar) (p : ℕ) (c : Choice) (k a : ℕ) (symbols : List ℕ) (
   inside-is = rw (← symbols-is) inside
 
   symbol-is : getD symbols k 0 ≡ child g p k
-  symbol-is = rw symbols-is (getD-default (g .children p) k 0 (g .symbols) inside-is)
+  symbol-is = symbol-asked g p k symbols symbols-is inside
 
   inherited-is : h ≡ g .inherited (child g p k)
   inherited-is = h-is ∙ ap (g .inherited) symbol-is

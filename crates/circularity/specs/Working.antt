@@ -1,14 +1,18 @@
 -- What the inner functions of the test compute, as functions of the table: one production's local graph, its closure, and the relations found so far.
 -- Nobody has to believe this file to read the test's contract, which speaks of trees alone.
+use mathlib.Core.Path.{_≡_}
 use mathlib.Core.Bool.{Bool, true, false, cond, _||_}
 use mathlib.Core.List.{List, [], _∷_, map}
 use Prim.Native.Nat.{ℕ, zero, suc, _+_, _-_, _*_, _/_, _%_, _^_}
 use lib.Bits.{bitOr}
 use lib.Dec.{ltb}
-use lib.ListN.{length, getD, set}
+use lib.Count.{ones}
+use lib.ListN.{length, getD, set, replicate}
 use Rattle.std.specs.Iters.{folded, counting}
+use Rattle.std.specs.shelf.Lists.{sum}
 use Rattle.grammar.specs.declared.language.Occurrence.{Occurrence}
-use Rattle.grammar.specs.Grammar.{Grammar, attributes, child, arguments}
+use Rattle.grammar.specs.Grammar.{Grammar, child, arguments}
+use Rattle.grammar.specs.Circularity.{sum-below}
 use Rattle.circularity.specs.declared.graph.Choice.{Choice}
 use Rattle.circularity.specs.declared.graph.Outcome.{Outcome}
 use Rattle.circularity.specs.Bits.{has, with-bit, closed-below, field, pack}
@@ -98,3 +102,18 @@ grown g zero masks = masks
 grown g (suc p) masks =
     let before = grown g p masks in
     set before (g .symbol p) (bitOr (getD before (g .symbol p) 0) (found-by g p before .relations))
+
+-- the sets after n rounds, from nothing
+abbrev pub rounds : Grammar → ℕ → List ℕ
+rounds g zero = replicate 16 0
+rounds g (suc n) = grown g (g .productions) (rounds g n)
+
+-- The sets are what some rounds from nothing give, and one more round adds nothing.
+pub record Saturated (g : Grammar) (masks : List ℕ) : Type 0 where
+  pub turns : ℕ
+  pub made : masks ≡ rounds g turns
+  pub still : sum (grown g (g .productions) masks) ≡ sum masks
+
+-- how many relations are in the sets of the symbols below n
+abbrev pub counted : List ℕ → ℕ → ℕ
+counted masks n = sum-below (λ s. ones (getD masks s 0)) n
