@@ -7,3 +7,5 @@ pub mod Local
 pub mod TreePaths
 pub mod Cycles
 pub mod Unique
+pub mod Members
+pub mod Edges
