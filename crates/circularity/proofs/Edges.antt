@@ -1,5 +1,5 @@
 -- The rows of bits of a production's local graph have exactly the steps of the local graph: vertex 4 * i + a is attribute a at place i.
-use mathlib.Core.Bool.{true, false, cond}
+use mathlib.Core.Bool.{cond}
 use mathlib.Core.List.{List, [], _∷_}
 use mathlib.Core.Logic.{_⊎_, inl, inr}
 use mathlib.Core.Path.{_≡_, refl, sym, ap, ap₂, _∙_, subst}
@@ -23,7 +23,7 @@ use Rattle.circularity.specs.Working.{vertex, bits-of, chosen, parent-row, chi
 use Rattle.circularity.proofs.Bits.{T-false, has-zero, has-with-bit, with-bit-keeps, with-bit-sets, with-bit-below, has-shifted, shifted-has, shifted-below}
 use Rattle.circularity.proofs.Fields.{field-below}
 use Rattle.circularity.proofs.Rows.{parent-inherited, parent-given, parent-past, no-child, child-given, child-related, child-past}
-use Rattle.circularity.proofs.Closure.{Rows, Edge, edge-from, edge-to}
+use Rattle.circularity.proofs.Closure.{Rows, Edge, edge-from}
 use Rattle.circularity.proofs.Local.{LocalStep, via, over-map}
 
 -- ---- vertices and figures
@@ -213,3 +213,131 @@ module _ (g : Grammar) (text : ℕ → List Segment) (lim : Limits g text) (p : 
 
   no-step : (row w i a : ℕ) → row ≡ 0 → T (has row w) → Step (at-root i a) (place w)
   no-step row w i a e t = absurd (T-false (has 0 w) (has-zero w) (subst (λ (x : ℕ). T (has x w)) e t))
+
+  parent-step : (a w : ℕ) → T (has (parent-row g p a) w) → Step (at-root 0 a) (place w)
+  parent-step a w t =
+      let h = g .inherited (g .symbol p) in
+      elim (cases-lt a h)
+      [ inl inherited ↦ no-step (parent-row g p a) w 0 a (parent-inherited g p a inherited) t
+      | inr above ↦
+        elim (cases-lt (a - h) (g .synthesized (g .symbol p)))
+        [ inl within ↦ rule-step 0 a w (above, omega arith) (subst (λ (x : ℕ). T (has x w)) (parent-given g p a above within) t)
+        | inr past ↦ no-step (parent-row g p a) w 0 a (parent-past g p a above past) t
+        ]
+      ]
+
+  -- a bit of the relation at a child's place, moved there, is a step over the child
+  related-step : (k a w : ℕ) → k < length (g .children p) → g .inherited (child g p k) ≤ a → a - g .inherited (child g p k) < g .synthesized (child g p k)
+    → T (has ((field (g .inherited (child g p k)) (chosen c k) (a - g .inherited (child g p k)) * 2 ^ (4 * (k + 1))) % 2 ^ 16) w) → Step (at-root (suc k) a) (place w)
+  related-step k a w inside above within t =
+      let h = g .inherited (child g p k) in
+      let few = child-few k inside in
+      let room : h + 4 * (k + 1) ≤ 16 = omega (arith, few, lim .each p exists .few-children) in
+      let found = has-shifted (field h (chosen c k) (a - h)) (4 * (k + 1)) h w (field-below h (chosen c k) (a - h)) room t in
+      let b : ℕ = found .0 in
+      let k-is : w / 4 ≡ suc k = omega (arith, found .1, found .2, few) in
+      let b-is : w % 4 ≡ b = omega (arith, found .1, found .2, few) in
+      via k b a inside (found .1) above (omega arith) (found .3) refl (ap₂ at-root k-is b-is)
+
+  child-step : (k a w : ℕ) → T (has (child-row g p c k a) w) → Step (at-root (suc k) a) (place w)
+  child-step k a w t =
+      let h = g .inherited (child g p k) in
+      elim (cases-lt k (length (g .children p)))
+      [ inl inside ↦
+        elim (cases-lt a h)
+        [ inl inherited ↦
+          rule-step (suc k) a w (inside, inherited)
+          (subst (λ (x : ℕ). T (has x w)) (child-given g p c k a inside inherited ∙ ap (λ (i : ℕ). bits-of (arguments g p i a)) (add-one k)) t)
+        | inr above ↦
+          elim (cases-lt (a - h) (g .synthesized (child g p k)))
+          [ inl within ↦ related-step k a w inside above within (subst (λ (x : ℕ). T (has x w)) (child-related g p c k a inside above within) t)
+          | inr past ↦ no-step (child-row g p c k a) w (suc k) a (child-past g p c k a inside above past) t
+          ]
+        ]
+      | inr outside ↦ no-step (child-row g p c k a) w (suc k) a (no-child g p c k a outside) t
+      ]
+
+  bit-step : (i a w : ℕ) → T (has (row-at g p c i a) w) → Step (at-root i a) (place w)
+  bit-step zero a w t = parent-step a w t
+  bit-step (suc k) a w t = child-step k a w t
+
+  pub edge-to-step : (v w : ℕ) → Edge (rows-of g p c) v w → Step (place v) (place w)
+  edge-to-step v w e =
+      let l : v < 16 = edge-from (rows-of g p c) (rows-are g p c) v w e in
+      bit-step (v / 4) (v % 4) w (subst (λ (x : ℕ). T (has x w)) (row-is g p c v l) e)
+
+  -- ---- and back
+
+  -- a step as an edge between vertices
+  pub record Drawn (x y : Instance) : Type 0 where
+    pub from : ℕ
+    pub to : ℕ
+    pub from-below : from < 16
+    pub to-below : to < 16
+    pub x-is : x ≡ place from
+    pub y-is : y ≡ place to
+    pub edge : Edge (rows-of g p c) from to
+
+  -- the row of an attribute that the production gives has its rule's arguments
+  given-row : (i a : ℕ) → Given g p i a → row-at g p c i a ≡ bits-of (arguments g p i a)
+  given-row zero a given = parent-given g p a (given .0) (omega (arith, given .0, given .1))
+  given-row (suc k) a given = child-given g p c k a (given .0) (given .1) ∙ ap (λ (i : ℕ). bits-of (arguments g p i a)) (add-one k)
+
+  draw : (x y : Instance) (i a w : ℕ) → i < 4 → a < 4 → x ≡ at-root i a → y ≡ place w → w < 16 → T (has (row-at g p c i a) w) → Drawn x y
+  draw x y i a w small few x-is y-is below t = record {
+    from = vertex i a;
+    to = w;
+    from-below = vertex-below i a;
+    to-below = below;
+    x-is = x-is ∙ sym (place-of-vertex i a small few);
+    y-is = y-is;
+    edge = subst (λ (r : ℕ). T (has r w)) (sym (row-of-place g p c i a small few)) t;
+  }
+
+  draw-rule : (x y : Instance) → WaitsBy g p x y → Drawn x y
+  draw-rule x y r =
+      let i = r .place in
+      let a = r .attribute in
+      let o = r .argument in
+      let small = occurs-small i a (given-occurs g p i a (r .given)) in
+      draw x y i a (vertex (o .place) (o .attribute)) (small .0) (small .1) (r .x-is)
+        (r .y-is ∙ sym (argument-place i a o (r .among)))
+        (vertex-below (o .place) (o .attribute))
+        (subst (λ (q : ℕ). T (has q (vertex (o .place) (o .attribute)))) (sym (given-row i a (r .given))) (bits-complete (arguments g p i a) o (r .among)))
+
+  draw-over : (x y : Instance) (k b a : ℕ) → k < length (g .children p) → b < g .inherited (child g p k) → g .inherited (child g p k) ≤ a → a < attributes g (child g p k)
+    → Chosen g p c k b a → x ≡ instance (k ∷ []) a → y ≡ instance (k ∷ []) b → Drawn x y
+  draw-over x y k b a inside inherited above below r x-is y-is =
+      let h = g .inherited (child g p k) in
+      let few = child-few k inside in
+      let small : suc k < 4 = omega (arith, lim .each p exists .few-children) in
+      let room : h + 4 * (k + 1) ≤ 16 = omega (arith, few) in
+      let w : ℕ = 4 * (k + 1) + b in
+      let k-is : w / 4 ≡ suc k = omega (arith, few) in
+      let b-is : w % 4 ≡ b = omega (arith, few) in
+      draw x y (suc k) a w small (omega (arith, few)) x-is (y-is ∙ sym (ap₂ at-root k-is b-is)) (omega (arith, few))
+        (subst (λ (q : ℕ). T (has q w)) (sym (child-related g p c k a inside above (omega arith)))
+        (shifted-has (field h (chosen c k) (a - h)) (4 * (k + 1)) h b (field-below h (chosen c k) (a - h)) room r))
+
+  pub step-to-edge : (x y : Instance) → Step x y → Drawn x y
+  step-to-edge x y (LocalStep.own w) = draw-rule x y w
+  step-to-edge x y (via k b a inside inherited above below r x-is y-is) = draw-over x y k b a inside inherited above below r x-is y-is
+
+  -- ---- ways
+
+  pub edges-to-steps : (v w : ℕ) → Over (Edge (rows-of g p c)) v w → Over Step (place v) (place w)
+  edges-to-steps v w o = over-map place edge-to-step v o
+
+  steps-drawn : (v : ℕ) (y : Instance) → Over Step (place v) y → (w : ℕ) → y ≡ place w → Over (Edge (rows-of g p c)) v w
+  steps-drawn v y (one r) w e =
+      let d = step-to-edge (place v) y r in
+      let from-is : d .from ≡ v = sym (place-injective v (d .from) (d .x-is)) in
+      let to-is : d .to ≡ w = place-injective (d .to) w (sym (d .y-is) ∙ e) in
+      one (rw (← from-is, ← to-is) (d .edge))
+  steps-drawn v y (then {y = u} o r) w e =
+      let d = step-to-edge u y r in
+      let to-is : d .to ≡ w = place-injective (d .to) w (sym (d .y-is) ∙ e) in
+      then (steps-drawn v u o (d .from) (d .x-is)) (subst (λ (z : ℕ). Edge (rows-of g p c) (d .from) z) to-is (d .edge))
+
+  pub steps-to-edges : (v w : ℕ) → Over Step (place v) (place w) → Over (Edge (rows-of g p c)) v w
+  steps-to-edges v w o = steps-drawn v (place w) o w refl

@@ -9,3 +9,4 @@ pub mod Cycles
 pub mod Unique
 pub mod Members
 pub mod Edges
+pub mod Outcomes
