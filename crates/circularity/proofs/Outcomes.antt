@@ -1,8 +1,7 @@
 -- What the outcome of a choice of relations says of a tree: where the chosen relations are those of the trees at the children's places,
 -- the outcome's relation is the whole tree's, and there is a cycle exactly where the tree has one through one of the root's own rules.
-use mathlib.Core.Bool.{_||_}
-use mathlib.Core.List.{List, [], _∷_}
-use mathlib.Core.Logic.{_⊎_, inl, inr}
+use mathlib.Core.List.{List, []}
+use mathlib.Core.Logic.{inl, inr}
 use mathlib.Core.Path.{_≡_, refl, sym, ap, ap₂, _∙_, subst}
 use Prim.Native.Nat.{ℕ, zero, suc, _+_, _-_, _*_, _/_, _%_, _^_, _≤_, _<_}
 use native.Mathlib.Nat.{mod-lt}
@@ -16,7 +15,7 @@ use Rattle.grammar.specs.Text.{Segment}
 use Rattle.grammar.specs.Grammar.{Grammar, attributes, child}
 use Rattle.grammar.specs.Limits.{Limits}
 use Rattle.grammar.specs.Tree.{Tree, node, hanging, TreeOf}
-use Rattle.grammar.specs.Dependence.{Instance, instance, at-root, WaitsAtRoot, Waits, Over, one, then}
+use Rattle.grammar.specs.Dependence.{Instance, instance, at-root, WaitsAtRoot, Waits, Over}
 use Rattle.grammar.specs.Circularity.{Related, SameRelation}
 use Rattle.circularity.specs.declared.graph.Choice.{Choice}
 use Rattle.circularity.specs.Bits.{has, closed-below, field}
