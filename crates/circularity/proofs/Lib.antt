@@ -1,12 +1,14 @@
+pub mod Fields
 pub mod Small
 pub mod Bits
 pub mod Closure
-pub mod Fields
 pub mod Members
 pub mod Rows
+pub mod Turns
+pub mod Gathers
 pub mod Local
 pub mod TreePaths
 pub mod Cycles
 pub mod Unique
-pub mod Turns
-pub mod Gathers
+pub mod Edges
+pub mod Outcomes
