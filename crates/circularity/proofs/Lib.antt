@@ -8,3 +8,4 @@ pub mod Local
 pub mod TreePaths
 pub mod Cycles
 pub mod Unique
+pub mod Gathering
