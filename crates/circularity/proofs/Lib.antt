@@ -8,4 +8,6 @@ pub mod Local
 pub mod TreePaths
 pub mod Cycles
 pub mod Unique
+pub mod Edges
+pub mod Outcomes
 pub mod Gathering
