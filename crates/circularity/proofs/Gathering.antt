@@ -46,6 +46,17 @@ pub record Fits (g : Grammar) (p : ℕ) (masks : List ℕ) (c : Choice) : Type 0
   pub below : (k : ℕ) → k < 3 → chosen c k < 16
   pub among : (k : ℕ) → k < 3 → T (has (choices-at g p masks k) (chosen c k))
 
+pub fits-from : (g : Grammar) (p : ℕ) (masks : List ℕ) (x y z : ℕ)
+    → (x < 16) × T (has (choices-at g p masks 0) x) → (y < 16) × T (has (choices-at g p masks 1) y) → (z < 16) × T (has (choices-at g p masks 2) z)
+    → Fits g p masks (choice x y z)
+fits-from g p masks x y z hx hy hz = record { below = λ k l. at k l .0; among = λ k l. at k l .1 }
+  where
+    at : (k : ℕ) → k < 3 → (chosen (choice x y z) k < 16) × T (has (choices-at g p masks k) (chosen (choice x y z) k))
+    at zero l = hx
+    at (suc zero) l = hy
+    at (suc (suc zero)) l = hz
+    at (suc (suc (suc k))) l = absurd (omega arith)
+
 module _ (P : Outcome → Type 0) (o : Observation P) where
   last-cases : (b : Bool) (x y : Outcome) → P (elim b [ true ↦ joined x y | false ↦ x ]) → P x ⊎ (T b × P y)
   last-cases true x y h = elim (o .either x y h) [ inl a ↦ inl a | inr b ↦ inr (tt, b) ]
@@ -94,21 +105,11 @@ module _ (P : Outcome → Type 0) (o : Observation P) where
       (has-gathered (λ z. f x y z) c n z (hz .0) (hz .1) h))
 
   module _ (g : Grammar) (p : ℕ) (masks : List ℕ) where
-    fits-from : (x y z : ℕ) → (x < 16) × T (has (choices-at g p masks 0) x) → (y < 16) × T (has (choices-at g p masks 1) y) → (z < 16) × T (has (choices-at g p masks 2) z)
-        → Fits g p masks (choice x y z)
-    fits-from x y z hx hy hz = record { below = λ k l. at k l .0; among = λ k l. at k l .1 }
-      where
-        at : (k : ℕ) → k < 3 → (chosen (choice x y z) k < 16) × T (has (choices-at g p masks k) (chosen (choice x y z) k))
-        at zero l = hx
-        at (suc zero) l = hy
-        at (suc (suc zero)) l = hz
-        at (suc (suc (suc k))) l = absurd (omega arith)
-
     pub found-has : P (found-by g p masks) → (c : Choice) × Fits g p masks c × P (outcome-of g p c)
     found-has h =
         let (x, y, z, hx, hy, hz, seen) =
               gathered-thrice (λ x y z. outcome-of g p (choice x y z)) (choices-at g p masks 0) (choices-at g p masks 1) (choices-at g p masks 2) 16 h in
-        (choice x y z, fits-from x y z hx hy hz, seen)
+        (choice x y z, fits-from g p masks x y z hx hy hz, seen)
 
     pub has-found : (c : Choice) → Fits g p masks c → P (outcome-of g p c) → P (found-by g p masks)
     has-found c fits seen =

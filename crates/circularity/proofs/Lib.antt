@@ -11,3 +11,5 @@ pub mod Unique
 pub mod Edges
 pub mod Outcomes
 pub mod Gathering
+pub mod Saturation
+pub mod Verdicts
