@@ -1,7 +1,6 @@
 -- The sets of relations found so far, symbol by symbol: each relation in them is some tree's, growing keeps that,
 -- growing ends, and where it ends every tree's relation is in them.
-use mathlib.Core.Bool.{Bool, true, false, cond}
-use mathlib.Core.List.{List, [], _∷_}
+use mathlib.Core.List.{List}
 use mathlib.Core.Logic.{_⊎_, inl, inr}
 use mathlib.Core.Path.{_≡_, refl, sym, ap, _∙_, subst}
 use Prim.Native.Nat.{ℕ, zero, suc, _+_, _*_, _^_, _≤_, _<_}
@@ -24,7 +23,7 @@ use Rattle.grammar.specs.Tree.{Tree, none, node, hanging, TreeOf}
 use Rattle.circularity.specs.declared.graph.Choice.{Choice}
 use Rattle.circularity.specs.Bits.{has}
 use Rattle.circularity.specs.Working.{chosen, outcome-of, choices-at, choice, found-by, grown}
-use Rattle.circularity.proofs.Bits.{T-false, has-zero, has-below, or-has, or-grows, or-same-means-below, power-has, has-power-only}
+use Rattle.circularity.proofs.Bits.{T-false, has-zero, or-has, or-grows, or-same-means-below, power-has, has-power-only}
 use Rattle.circularity.proofs.Closure.{Rows}
 use Rattle.circularity.proofs.Gathering.{Fits, fits-from, relation-seen, found-has, has-found, found-below}
 use Rattle.circularity.proofs.Outcomes.{Code, relation-of, relation-small, outcome-code}

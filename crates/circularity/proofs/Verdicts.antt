@@ -1,8 +1,8 @@
 -- What the saturated sets of relations say: how many relations each symbol's trees have, and whether the language is circular.
 use mathlib.Core.Bool.{Bool, true, false}
 use mathlib.Core.List.{List, map}
-use mathlib.Core.Path.{_≡_, refl, sym, _∙_, subst}
-use Prim.Native.Nat.{ℕ, _^_, _<_}
+use mathlib.Core.Path.{_≡_, refl, sym, subst}
+use Prim.Native.Nat.{ℕ, _<_}
 use native.Mathlib.Omega.{arith}
 use lib.Count.{ones}
 use lib.Dec.{T}
@@ -10,11 +10,11 @@ use lib.IntN.{pos}
 use lib.ListN.{length, getD}
 use Rattle.std.proofs.shelf.Lists.{getD-map, length-map}
 use Rattle.grammar.specs.Text.{Segment}
-use Rattle.grammar.specs.Grammar.{Grammar, child}
+use Rattle.grammar.specs.Grammar.{Grammar}
 use Rattle.grammar.specs.Limits.{Limits}
-use Rattle.grammar.specs.Tree.{Tree, none, node, hanging, TreeOf}
+use Rattle.grammar.specs.Tree.{Tree, none, node, TreeOf}
 use Rattle.grammar.specs.Dependence.{Instance, WaitsAtRoot, Waits}
-use Rattle.grammar.specs.Circularity.{Circular, Culprit, SameRelation, Relations, RelationCount, sum-below}
+use Rattle.grammar.specs.Circularity.{Circular, Culprit, Relations, RelationCount, sum-below}
 use Rattle.circularity.specs.Bits.{has}
 use Rattle.circularity.specs.Working.{found-by}
 use Rattle.circularity.proofs.Bits.{has-below}
@@ -23,7 +23,7 @@ use Rattle.circularity.proofs.Gathering.{cycle-seen, found-has, has-found}
 use Rattle.circularity.proofs.Local.{Star}
 use Rattle.circularity.proofs.Members.{members, members-count, members-has, members-rise, members-all}
 use Rattle.circularity.proofs.Outcomes.{Code, code-unique, same-code, cyclic-has-own-cycle, own-cycle-is-cyclic}
-use Rattle.circularity.proofs.Saturation.{Sound, Closed, Coded, complete, coded, realise}
+use Rattle.circularity.proofs.Saturation.{Sound, Closed, complete, coded, realise}
 
 -- ---- how many relations
 
