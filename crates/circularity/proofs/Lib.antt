@@ -12,3 +12,6 @@ pub mod Cycles
 pub mod Unique
 pub mod Edges
 pub mod Outcomes
+pub mod Gathering
+pub mod Saturation
+pub mod Verdicts
