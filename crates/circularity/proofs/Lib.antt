@@ -14,4 +14,5 @@ pub mod Edges
 pub mod Outcomes
 pub mod Gathering
 pub mod Saturation
+pub mod Rounds
 pub mod Verdicts
