@@ -1,0 +1,7 @@
+// The language of session plans, and the altered plan, behind the interface of every language.
+pub mod figure;
+pub mod scope;
+
+pub use figure::PlanFigure;
+pub use figure::PlanRow;
+pub use figure::PlanType;
