@@ -1,0 +1,30 @@
+-- Scopes: a word whose bits 2k and 2k + 1 hold what is known of name k, for the names 0 to 31.
+-- An entry is 0 for an undeclared name, 1 or 2 for the type that it was declared with, and 3 for a name that was declared twice.
+use mathlib.Core.Bool.{cond}
+use Prim.Native.Nat.{ℕ, zero, suc, _+_, _*_, _/_, _%_, _^_}
+use lib.Dec.{eqb}
+
+-- the entry of a name; past the last name it is 0
+abbrev pub entry : ℕ → ℕ → ℕ
+entry scope name = scope / 2 ^ (2 * name) % 4
+
+-- the word with the given entries for the names below n
+abbrev pub word : (ℕ → ℕ) → ℕ → ℕ
+word entries zero = 0
+word entries (suc n) = word entries n + entries n * 2 ^ (2 * n)
+
+-- the scope with the given entries
+abbrev pub scope-of : (ℕ → ℕ) → ℕ
+scope-of entries = word entries 32
+
+-- the entry of a name after it is declared with a type: the type if it was undeclared, else 3
+abbrev pub declared-entry : ℕ → ℕ → ℕ
+declared-entry before type-number = cond (eqb before 0) type-number 3
+
+-- a scope after a name is declared in it; every other name's entry is as it was
+abbrev pub declared : ℕ → ℕ → ℕ → ℕ
+declared scope name type-number = scope-of (λ k. cond (eqb k name) (declared-entry (entry scope k) type-number) (entry scope k))
+
+-- an inner scope laid over an outer one: each name's inner entry where that is not 0, else its outer one
+abbrev pub overlaid : ℕ → ℕ → ℕ
+overlaid inner outer = scope-of (λ k. cond (eqb (entry inner k) 0) (entry outer k) (entry inner k))
