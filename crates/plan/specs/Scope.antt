@@ -14,17 +14,19 @@ word entries zero = 0
 word entries (suc n) = word entries n + entries n * 2 ^ (2 * n)
 
 -- the scope with the given entries
-abbrev pub scope-of : (ℕ → ℕ) → ℕ
+unfoldable pub scope-of : (ℕ → ℕ) → ℕ
 scope-of entries = word entries 32
 
--- the entry of a name after it is declared with a type: the type if it was undeclared, else 3
-abbrev pub declared-entry : ℕ → ℕ → ℕ
-declared-entry before type-number = cond (eqb before 0) type-number 3
+-- The entries after a name is declared with a type: its own is the type if it was 0, else 3; every other is as it was.
+abbrev pub entry-declared : ℕ → ℕ → ℕ → ℕ → ℕ
+entry-declared scope name type-number k = cond (eqb k name) (cond (eqb (entry scope k) 0) type-number 3) (entry scope k)
 
--- a scope after a name is declared in it; every other name's entry is as it was
 abbrev pub declared : ℕ → ℕ → ℕ → ℕ
-declared scope name type-number = scope-of (λ k. cond (eqb k name) (declared-entry (entry scope k) type-number) (entry scope k))
+declared scope name type-number = scope-of (entry-declared scope name type-number)
 
--- an inner scope laid over an outer one: each name's inner entry where that is not 0, else its outer one
+-- The entries of an inner scope laid over an outer one: the inner entry where that is not 0, else the outer one.
+abbrev pub entry-overlaid : ℕ → ℕ → ℕ → ℕ
+entry-overlaid inner outer k = cond (eqb (entry inner k) 0) (entry outer k) (entry inner k)
+
 abbrev pub overlaid : ℕ → ℕ → ℕ
-overlaid inner outer = scope-of (λ k. cond (eqb (entry inner k) 0) (entry outer k) (entry inner k))
+overlaid inner outer = scope-of (entry-overlaid inner outer)

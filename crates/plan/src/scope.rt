@@ -1,7 +1,7 @@
 // Scopes: a 64-bit word holds for each of the 32 names whether it is undeclared, declared with a type, or declared twice.
 ghost use mathlib.Core.Path.{_≡_};
 ghost use Prim.Native.Nat.{_<_};
-ghost use Rattle.plan.specs.Scope.{entry, declared, overlaid, scope-of};
+ghost use Rattle.plan.specs.Scope.{entry, declared, entry-declared, overlaid, entry-overlaid};
 
 const NAMES: u32 = 32;
 
@@ -22,17 +22,24 @@ pub fn declare(scope: u64, name: u32, type_number: u8) -> u64
 {
     let mut result = 0;
     for k in 0..NAMES {
-        let before = entry_of(scope, k);
-        let after = if k != name {
-            before
-        } else if before == 0 {
-            type_number
-        } else {
-            3
-        };
+        let after = entry_after(scope, name, type_number, k);
         result += u64::from(after) << (2 * k);
     }
     result
+}
+
+// The entry of name k after a name is declared.
+fn entry_after(scope: u64, name: u32, type_number: u8, k: u32) -> u8
+    ensures { λ r. ⌜ r ≡ entry-declared scope name «type_number» k ⌝ }
+{
+    let before = entry_of(scope, k);
+    if k != name {
+        before
+    } else if before == 0 {
+        type_number
+    } else {
+        3
+    }
 }
 
 // The inner scope laid over the outer one.
@@ -41,9 +48,16 @@ pub fn overlay(inner: u64, outer: u64) -> u64
 {
     let mut result = 0;
     for k in 0..NAMES {
-        let own = entry_of(inner, k);
-        let seen = if own == 0 { entry_of(outer, k) } else { own };
+        let seen = entry_seen(inner, outer, k);
         result += u64::from(seen) << (2 * k);
     }
     result
+}
+
+// The entry of name k where the inner scope lies over the outer one.
+fn entry_seen(inner: u64, outer: u64, k: u32) -> u8
+    ensures { λ r. ⌜ r ≡ entry-overlaid inner outer k ⌝ }
+{
+    let own = entry_of(inner, k);
+    if own == 0 { entry_of(outer, k) } else { own }
 }
