@@ -1,2 +1,4 @@
 pub mod Scope
 pub mod Figures
+pub mod Rules
+pub mod Table
