@@ -1,5 +1,6 @@
 // The language of session plans, and the altered plan, behind the interface of every language.
 pub mod figure;
+pub mod rules;
 pub mod scope;
 
 pub use figure::PlanFigure;
