@@ -1,8 +1,11 @@
 // The language of session plans, and the altered plan, behind the interface of every language.
+pub mod arguments;
 pub mod figure;
+pub mod language;
 pub mod rules;
 pub mod scope;
 
 pub use figure::PlanFigure;
 pub use figure::PlanRow;
 pub use figure::PlanType;
+pub use language::Plan;
