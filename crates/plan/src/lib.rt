@@ -1,10 +1,12 @@
 // The language of session plans, and the altered plan, behind the interface of every language.
+pub mod altered;
 pub mod arguments;
 pub mod figure;
 pub mod language;
 pub mod rules;
 pub mod scope;
 
+pub use altered::AlteredPlan;
 pub use figure::PlanFigure;
 pub use figure::PlanRow;
 pub use figure::PlanType;
