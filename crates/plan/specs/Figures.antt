@@ -1,6 +1,7 @@
 -- The figures of a plan: what a rule reads in one, and what a row in lent memory reads as.
 -- A figure's meaning is the figure itself: two are the same exactly when they are the same case with the same number.
-use Prim.Native.Nat.{ℕ, zero, suc}
+use mathlib.Core.Path.{_≡_}
+use Prim.Native.Nat.{ℕ, zero, suc, _<_}
 use Rattle.plan.specs.declared.figure.PlanType.{PlanType}
 use Rattle.plan.specs.declared.figure.PlanType.the-variants.{Unknown, Number, Truth}
 use Rattle.plan.specs.declared.figure.PlanFigure.{PlanFigure}
@@ -46,3 +47,27 @@ abbrev pub count-in : PlanFigure → ℕ
 count-in (PlanFigure.Scope s) = 0
 count-in (PlanFigure.«Type» t) = 0
 count-in (PlanFigure.Count n) = n
+
+-- the same case with the same number
+abbrev pub SameFigure : PlanFigure → PlanFigure → Type 0
+SameFigure (PlanFigure.Scope s) (PlanFigure.Scope t) = s ≡ t
+SameFigure (PlanFigure.Scope s) (PlanFigure.«Type» t) = ⊥
+SameFigure (PlanFigure.Scope s) (PlanFigure.Count t) = ⊥
+SameFigure (PlanFigure.«Type» s) (PlanFigure.Scope t) = ⊥
+SameFigure (PlanFigure.«Type» s) (PlanFigure.«Type» t) = number-of-type s ≡ number-of-type t
+SameFigure (PlanFigure.«Type» s) (PlanFigure.Count t) = ⊥
+SameFigure (PlanFigure.Count s) (PlanFigure.Scope t) = ⊥
+SameFigure (PlanFigure.Count s) (PlanFigure.«Type» t) = ⊥
+SameFigure (PlanFigure.Count s) (PlanFigure.Count t) = s ≡ t
+
+-- What the figures of plans are, for the meaning of a figure, the figure of a row, and the blank's meaning.
+pub record PlanFigures (means : PlanFigure → PlanFigure) (reads : PlanRow → PlanFigure) (nothing : PlanFigure) : Type 0 where
+  -- a figure means itself, so two mean the same exactly when they are the same case with the same number
+  pub means-itself : (f : PlanFigure) → means f ≡ f
+  pub same-case-and-number : (f g : PlanFigure) → means f ≡ means g → SameFigure f g
+  pub told-by-case-and-number : (f g : PlanFigure) → SameFigure f g → means f ≡ means g
+  -- every row reads as a figure; a type above 2 reads as the blank
+  pub reads-rows : (r : PlanRow) → reads r ≡ read-row r
+  pub unlawful-is-blank : (n : ℕ) → 2 < n → means (reads (PlanRow.«Type» n)) ≡ nothing
+  -- the blank is type 0
+  pub blank-is : nothing ≡ PlanFigure.«Type» Unknown

@@ -1,7 +1,8 @@
 -- Scopes: a word whose bits 2k and 2k + 1 hold what is known of name k, for the names 0 to 31.
 -- An entry is 0 for an undeclared name, 1 or 2 for the type that it was declared with, and 3 for a name that was declared twice.
 use mathlib.Core.Bool.{cond}
-use Prim.Native.Nat.{ℕ, zero, suc, _+_, _*_, _/_, _%_, _^_}
+use mathlib.Core.Path.{_≡_}
+use Prim.Native.Nat.{ℕ, zero, suc, _+_, _*_, _/_, _%_, _^_, _<_}
 use lib.Dec.{eqb}
 
 -- the entry of a name; past the last name it is 0
@@ -30,3 +31,9 @@ entry-overlaid inner outer k = cond (eqb (entry inner k) 0) (entry outer k) (ent
 
 abbrev pub overlaid : ℕ → ℕ → ℕ
 overlaid inner outer = scope-of (entry-overlaid inner outer)
+
+-- What a reader may rely on: each name's entry in a scope that a rule makes, and that a scope is told by its 32 entries.
+pub record ScopesByEntries : Type 0 where
+  pub after-declaration : (scope name type-number k : ℕ) → type-number < 4 → k < 32 → entry (declared scope name type-number) k ≡ entry-declared scope name type-number k
+  pub laid-over : (inner outer k : ℕ) → k < 32 → entry (overlaid inner outer) k ≡ entry-overlaid inner outer k
+  pub told-by-entries : (s t : ℕ) → s < 2 ^ 64 → t < 2 ^ 64 → ((k : ℕ) → k < 32 → entry s k ≡ entry t k) → s ≡ t

@@ -11,3 +11,4 @@ pub use figure::PlanFigure;
 pub use figure::PlanRow;
 pub use figure::PlanType;
 pub use language::Plan;
+pub mod theorems;
