@@ -55,11 +55,11 @@ power-below n h =
 -- an entry past the last name
 pub no-name : (scope name : ℕ) → scope < 2 ^ 64 → 32 ≤ name → 0 ≡ entry scope name
 no-name scope name fits past =
-    let split : 2 ^ (2 * name) ≡ 2 ^ (2 * name - 64) * 2 ^ 64 =
-      let e : 2 * name ≡ (2 * name - 64) + 64 = omega arith in ap (λ k. 2 ^ k) e ∙ pow-add 2 (2 * name - 64) 64
-    in
-    let positive = pow-pos (2 * name - 64) in
-    let more = mul-le 1 (2 ^ 64) (2 ^ (2 * name - 64)) (2 ^ 64) (omega arith) (omega arith) in
+    let rest = 2 * name - 64 in
+    let e : 2 * name ≡ rest + 64 = omega arith in
+    let split : 2 ^ (2 * name) ≡ 2 ^ rest * 2 ^ 64 = ap (λ k. 2 ^ k) e ∙ pow-add 2 rest 64 in
+    let positive = pow-pos rest in
+    let more = mul-le 1 (2 ^ 64) (2 ^ rest) (2 ^ 64) (omega arith) (omega arith) in
     let less : scope < 2 ^ (2 * name) = omega arith in
     sym (ap (λ q. q % 4) (div-eq-of-lt less))
 
@@ -82,12 +82,19 @@ lower-part scope k = sym (field-of scope 2 (2 * k))
 
 entry-under : (w e k n : ℕ) → k < n → entry (w + e * 2 ^ (2 * n)) k ≡ entry w k
 entry-under w e k n h =
-    let split : e * 2 ^ (2 * n) ≡ 2 ^ (2 + 2 * k) * (2 ^ (2 * n - (2 + 2 * k)) * e) =
-      let z : 2 * n ≡ (2 + 2 * k) + (2 * n - (2 + 2 * k)) = omega arith in
-      mul-comm e (2 ^ (2 * n)) ∙ ap (λ p. 2 ^ p * e) z ∙ ap (λ p. p * e) (pow-add 2 (2 + 2 * k) (2 * n - (2 + 2 * k))) ∙ mul-assoc _ _ _
-    in
-    let cut : (w + e * 2 ^ (2 * n)) % 2 ^ (2 + 2 * k) ≡ w % 2 ^ (2 + 2 * k) = ap (λ x. (w + x) % 2 ^ (2 + 2 * k)) split ∙ add-mul-mod-self-left _ _ _ in
+    let low = 2 + 2 * k in
+    let rest = 2 * n - low in
+    let z : 2 * n ≡ low + rest = omega arith in
+    let split : e * 2 ^ (2 * n) ≡ 2 ^ low * (2 ^ rest * e) = mul-comm e (2 ^ (2 * n)) ∙ ap (λ p. 2 ^ p * e) z ∙ ap (λ p. p * e) (pow-add 2 low rest) ∙ mul-assoc _ _ _ in
+    let cut : (w + e * 2 ^ (2 * n)) % 2 ^ low ≡ w % 2 ^ low = ap (λ x. (w + x) % 2 ^ low) split ∙ add-mul-mod-self-left _ _ _ in
     lower-part (w + e * 2 ^ (2 * n)) k ∙ ap (λ x. x / 2 ^ (2 * k)) cut ∙ sym (lower-part w k)
+
+entry-last : (entries : ℕ → ℕ) → Small entries → (n : ℕ) → entry (word entries (suc n)) n ≡ entries n
+entry-last entries small n =
+    let sum : word entries n + entries n * 2 ^ (2 * n) ≡ entries n * 2 ^ (2 * n) + word entries n = omega arith in
+    ap (λ w. entry w n) sum
+    ∙ ap (λ q. q % 4) (shr-high (entries n) (2 * n) (word entries n) (word-lt entries small n))
+    ∙ mod-eq-of-lt (small n)
 
 -- the entries of a word are those that it was made of
 pub entry-word : (entries : ℕ → ℕ) → Small entries → (n k : ℕ) → k < n → entry (word entries n) k ≡ entries k
@@ -95,14 +102,7 @@ entry-word entries small zero k h = absurd (omega arith)
 entry-word entries small (suc n) k h =
     ⊎-elim
     (λ (lower : k < n). entry-under (word entries n) (entries n) k n lower ∙ entry-word entries small n k lower)
-    (λ (last : n ≤ k).
-      let here : k ≡ n = omega arith in
-      let sum : word entries n + entries n * 2 ^ (2 * n) ≡ entries n * 2 ^ (2 * n) + word entries n = omega arith in
-      ap (λ i. entry (word entries n + entries n * 2 ^ (2 * n)) i) here
-      ∙ ap (λ w. entry w n) sum
-      ∙ ap (λ q. q % 4) (shr-high (entries n) (2 * n) (word entries n) (word-lt entries small n))
-      ∙ mod-eq-of-lt (small n)
-      ∙ ap entries (sym here))
+    (λ (last : n ≤ k). let here : n ≡ k = omega arith in subst (λ (j : ℕ). entry (word entries (suc n)) j ≡ entries j) here (entry-last entries small n))
     (cases-lt k n)
 
 -- a word is made of its entries

@@ -100,126 +100,126 @@ name (negsuc n) = false
 -- 0: a plan is a step, which starts with no names and sees the names that it declares itself.
 abbrev pub plan-production : Production
 plan-production =
-    record
-      { symbol = 0
-      ; children = step ∷ []
-      ; accepts = zero-alone
-      ; text = child 1 ∷ []
-      ; rules =
-        gives (first step-in) [] no-names
-        ∷ gives (first step-env) (first step-out ∷ []) same-scope
-        ∷ gives (own plan-bad) (first step-bad ∷ []) same-count
-        ∷ []
-      }
+    record {
+      symbol = 0;
+      children = step ∷ [];
+      accepts = zero-alone;
+      text = child 1 ∷ [];
+      rules =
+          gives (first step-in) [] no-names
+          ∷ gives (first step-env) (first step-out ∷ []) same-scope
+          ∷ gives (own plan-bad) (first step-bad ∷ []) same-count
+          ∷ [];
+    }
 
 -- 1: the hole of steps changes nothing.
 abbrev pub step-hole : Production
 step-hole =
-    record
-      { symbol = step
-      ; children = []
-      ; accepts = zero-alone
-      ; text = bytes (codes "~") ∷ []
-      ; rules = gives (own step-out) (own step-in ∷ []) same-scope ∷ gives (own step-bad) [] none-bad ∷ []
-      }
+    record {
+      symbol = step;
+      children = [];
+      accepts = zero-alone;
+      text = bytes (codes "~") ∷ [];
+      rules = gives (own step-out) (own step-in ∷ []) same-scope ∷ gives (own step-bad) [] none-bad ∷ [];
+    }
 
 -- 2: the hole of terms has no known type.
 abbrev pub term-hole : Production
 term-hole =
-    record
-      { symbol = term
-      ; children = []
-      ; accepts = zero-alone
-      ; text = bytes (codes "_") ∷ []
-      ; rules = gives (own term-type) [] (the-type Unknown) ∷ gives (own term-bad) [] none-bad ∷ []
-      }
+    record {
+      symbol = term;
+      children = [];
+      accepts = zero-alone;
+      text = bytes (codes "_") ∷ [];
+      rules = gives (own term-type) [] (the-type Unknown) ∷ gives (own term-bad) [] none-bad ∷ [];
+    }
 
 -- 3: a chain is two steps, one after the other.
 abbrev pub chain : Production
 chain =
-    record
-      { symbol = step
-      ; children = step ∷ step ∷ []
-      ; accepts = zero-alone
-      ; text = child 1 ∷ bytes (codes ";") ∷ child 2 ∷ []
-      ; rules =
-        gives (first step-in) (own step-in ∷ []) same-scope
-        ∷ gives (first step-env) (own step-env ∷ []) same-scope
-        ∷ gives (second step-in) (first step-out ∷ []) same-scope
-        ∷ gives (second step-env) (own step-env ∷ []) same-scope
-        ∷ gives (own step-out) (second step-out ∷ []) same-scope
-        ∷ gives (own step-bad) (first step-bad ∷ second step-bad ∷ []) both-bad
-        ∷ []
-      }
+    record {
+      symbol = step;
+      children = step ∷ step ∷ [];
+      accepts = zero-alone;
+      text = child 1 ∷ bytes (codes ";") ∷ child 2 ∷ [];
+      rules =
+          gives (first step-in) (own step-in ∷ []) same-scope
+          ∷ gives (first step-env) (own step-env ∷ []) same-scope
+          ∷ gives (second step-in) (first step-out ∷ []) same-scope
+          ∷ gives (second step-env) (own step-env ∷ []) same-scope
+          ∷ gives (own step-out) (second step-out ∷ []) same-scope
+          ∷ gives (own step-bad) (first step-bad ∷ second step-bad ∷ []) both-bad
+          ∷ [];
+    }
 
 -- 4: a declaration gives a name a type; `taken` are the attributes that its `out` takes.
 abbrev pub declaration-taking : List Occurrence → Production
 declaration-taking taken =
-    record
-      { symbol = step
-      ; children = term ∷ []
-      ; accepts = declaration
-      ; text = bytes (codes "let ") ∷ literal ∷ bytes (codes "=") ∷ child 1 ∷ []
-      ; rules =
-        gives (first term-env) (own step-env ∷ []) same-scope
-        ∷ gives (own step-out) taken with-declared
-        ∷ gives (own step-bad) (first term-type ∷ first term-bad ∷ []) declaration-bad
-        ∷ []
-      }
+    record {
+      symbol = step;
+      children = term ∷ [];
+      accepts = declaration;
+      text = bytes (codes "let ") ∷ literal ∷ bytes (codes "=") ∷ child 1 ∷ [];
+      rules =
+          gives (first term-env) (own step-env ∷ []) same-scope
+          ∷ gives (own step-out) taken with-declared
+          ∷ gives (own step-bad) (first term-type ∷ first term-bad ∷ []) declaration-bad
+          ∷ [];
+    }
 
 -- 5: a block is a step with names of its own.
 abbrev pub block : Production
 block =
-    record
-      { symbol = step
-      ; children = step ∷ []
-      ; accepts = zero-alone
-      ; text = bytes (codes "{") ∷ child 1 ∷ bytes (codes "}") ∷ []
-      ; rules =
-        gives (first step-in) [] no-names
-        ∷ gives (first step-env) (first step-out ∷ own step-env ∷ []) inside-scope
-        ∷ gives (own step-out) (own step-in ∷ []) same-scope
-        ∷ gives (own step-bad) (first step-bad ∷ []) same-count
-        ∷ []
-      }
+    record {
+      symbol = step;
+      children = step ∷ [];
+      accepts = zero-alone;
+      text = bytes (codes "{") ∷ child 1 ∷ bytes (codes "}") ∷ [];
+      rules =
+          gives (first step-in) [] no-names
+          ∷ gives (first step-env) (first step-out ∷ own step-env ∷ []) inside-scope
+          ∷ gives (own step-out) (own step-in ∷ []) same-scope
+          ∷ gives (own step-bad) (first step-bad ∷ []) same-count
+          ∷ [];
+    }
 
 -- 6: a number.
 abbrev pub number : Production
 number =
-    record
-      { symbol = term
-      ; children = []
-      ; accepts = lawful
-      ; text = literal ∷ []
-      ; rules = gives (own term-type) [] (the-type Number) ∷ gives (own term-bad) [] none-bad ∷ []
-      }
+    record {
+      symbol = term;
+      children = [];
+      accepts = lawful;
+      text = literal ∷ [];
+      rules = gives (own term-type) [] (the-type Number) ∷ gives (own term-bad) [] none-bad ∷ [];
+    }
 
 -- 7: a name has the type that it was declared with, and is bad where it has none.
 abbrev pub name-production : Production
 name-production =
-    record
-      { symbol = term
-      ; children = []
-      ; accepts = name
-      ; text = bytes (codes "v") ∷ literal ∷ []
-      ; rules = gives (own term-type) (own term-env ∷ []) name-type ∷ gives (own term-bad) (own term-env ∷ []) name-bad ∷ []
-      }
+    record {
+      symbol = term;
+      children = [];
+      accepts = name;
+      text = bytes (codes "v") ∷ literal ∷ [];
+      rules = gives (own term-type) (own term-env ∷ []) name-type ∷ gives (own term-bad) (own term-env ∷ []) name-bad ∷ [];
+    }
 
 -- 8: a comparison is a truth, and compares no truths.
 abbrev pub less : Production
 less =
-    record
-      { symbol = term
-      ; children = term ∷ term ∷ []
-      ; accepts = zero-alone
-      ; text = bytes (codes "(") ∷ child 1 ∷ bytes (codes "<") ∷ child 2 ∷ bytes (codes ")") ∷ []
-      ; rules =
-        gives (first term-env) (own term-env ∷ []) same-scope
-        ∷ gives (second term-env) (own term-env ∷ []) same-scope
-        ∷ gives (own term-type) [] (the-type Truth)
-        ∷ gives (own term-bad) (first term-type ∷ second term-type ∷ first term-bad ∷ second term-bad ∷ []) comparison-bad
-        ∷ []
-      }
+    record {
+      symbol = term;
+      children = term ∷ term ∷ [];
+      accepts = zero-alone;
+      text = bytes (codes "(") ∷ child 1 ∷ bytes (codes "<") ∷ child 2 ∷ bytes (codes ")") ∷ [];
+      rules =
+          gives (first term-env) (own term-env ∷ []) same-scope
+          ∷ gives (second term-env) (own term-env ∷ []) same-scope
+          ∷ gives (own term-type) [] (the-type Truth)
+          ∷ gives (own term-bad) (first term-type ∷ second term-type ∷ first term-bad ∷ second term-bad ∷ []) comparison-bad
+          ∷ [];
+    }
 
 -- what is said past the last production, where it means nothing
 abbrev pub no-production : Production
@@ -229,22 +229,22 @@ no-production = record { symbol = 0; children = []; accepts = λ l. false; text 
 abbrev pub production-taking : List Occurrence → ℕ → Production
 production-taking taken p =
     getD
-      (plan-production ∷ step-hole ∷ term-hole ∷ chain ∷ declaration-taking taken ∷ block ∷ number ∷ name-production ∷ less ∷ [])
-      p
-      no-production
+    (plan-production ∷ step-hole ∷ term-hole ∷ chain ∷ declaration-taking taken ∷ block ∷ number ∷ name-production ∷ less ∷ [])
+    p
+    no-production
 
 abbrev pub grammar-taking : List Occurrence → Grammar
 grammar-taking taken =
-    record
-      { symbols = 3
-      ; productions = 9
-      ; inherited = inherited-by
-      ; synthesized = synthesized-by
-      ; symbol = λ p. production-taking taken p .symbol
-      ; children = λ p. production-taking taken p .children
-      ; rules = λ p. map (λ r. record { target = r .target; arguments = r .arguments }) (production-taking taken p .rules)
-      ; accepts = λ p. production-taking taken p .accepts
-      }
+    record {
+      symbols = 3;
+      productions = 9;
+      inherited = inherited-by;
+      synthesized = synthesized-by;
+      symbol = λ p. production-taking taken p .symbol;
+      children = λ p. production-taking taken p .children;
+      rules = λ p. map (λ r. record { target = r .target; arguments = r .arguments }) (production-taking taken p .rules);
+      accepts = λ p. production-taking taken p .accepts;
+    }
 
 -- the function of the first rule that gives attribute a at place i; where there is none, the blank
 abbrev pub function-in : List PlanRule → ℕ → ℕ → Function

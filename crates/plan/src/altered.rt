@@ -23,7 +23,9 @@ pub struct AlteredPlan;
 
 pub impl Language for AlteredPlan as AlteredPlanLanguage {
     type Meaning = PlanFigure;
+
     type Row = PlanRow;
+
     type Value = PlanFigure;
 
     ghost grammar = { λ plan. altered-grammar };
@@ -69,7 +71,13 @@ pub impl Language for AlteredPlan as AlteredPlanLanguage {
         }
     }
 
-    fn evaluate(&self, production: u8, target: Occurrence, literal: i32, arguments: &Arguments<'_, PlanRow>) -> PlanFigure {
+    fn evaluate(
+        &self,
+        production: u8,
+        target: Occurrence,
+        literal: i32,
+        arguments: &Arguments<'_, PlanRow>,
+    ) -> PlanFigure {
         PLAIN.evaluate(production, target, literal, arguments)
     }
 

@@ -86,6 +86,7 @@ impl PlanFigure {
 
 pub impl Figure for PlanFigure as PlanFigureFigure {
     type Meaning = PlanFigure;
+
     type Row = PlanRow;
 
     ghost means = { λ figure. figure };

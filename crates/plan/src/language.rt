@@ -23,53 +23,116 @@ use grammar::Piece;
 
 // the symbols past the first, which is the plan
 const STEP: u8 = 1;
+
 const TERM: u8 = 2;
 
 // the productions
-pub const PLAN: u8 = 0;
-pub const STEP_HOLE: u8 = 1;
-pub const TERM_HOLE: u8 = 2;
-pub const CHAIN: u8 = 3;
-pub const DECLARATION: u8 = 4;
-pub const BLOCK: u8 = 5;
-pub const NUMBER: u8 = 6;
-pub const NAME: u8 = 7;
-pub const LESS: u8 = 8;
+pub(crate) const PLAN: u8 = 0;
+
+pub(crate) const STEP_HOLE: u8 = 1;
+
+pub(crate) const TERM_HOLE: u8 = 2;
+
+pub(crate) const CHAIN: u8 = 3;
+
+pub(crate) const DECLARATION: u8 = 4;
+
+pub(crate) const BLOCK: u8 = 5;
+
+pub(crate) const NUMBER: u8 = 6;
+
+pub(crate) const NAME: u8 = 7;
+
+pub(crate) const LESS: u8 = 8;
 
 // the places of a production
-pub const OWN: u8 = 0;
-pub const FIRST: u8 = 1;
-pub const SECOND: u8 = 2;
+pub(crate) const OWN: u8 = 0;
+
+pub(crate) const FIRST: u8 = 1;
+
+pub(crate) const SECOND: u8 = 2;
 
 // the attributes of a plan, a step and a term
 const PLAN_BAD: u8 = 0;
-pub const STEP_IN: u8 = 0;
+
+pub(crate) const STEP_IN: u8 = 0;
+
 const STEP_ENV: u8 = 1;
-pub const STEP_OUT: u8 = 2;
+
+pub(crate) const STEP_OUT: u8 = 2;
+
 const STEP_BAD: u8 = 3;
+
 const TERM_ENV: u8 = 0;
-pub const TERM_TYPE: u8 = 1;
+
+pub(crate) const TERM_TYPE: u8 = 1;
+
 const TERM_BAD: u8 = 2;
 
 // what rules take
-pub const IN: Occurrence = Occurrence { place: OWN, attribute: STEP_IN };
-const ENV: Occurrence = Occurrence { place: OWN, attribute: STEP_ENV };
-const FIRST_OUT: Occurrence = Occurrence { place: FIRST, attribute: STEP_OUT };
-const FIRST_BAD: Occurrence = Occurrence { place: FIRST, attribute: STEP_BAD };
-const SECOND_OUT: Occurrence = Occurrence { place: SECOND, attribute: STEP_OUT };
-const SECOND_BAD: Occurrence = Occurrence { place: SECOND, attribute: STEP_BAD };
-const ENV_OF_TERM: Occurrence = Occurrence { place: OWN, attribute: TERM_ENV };
-pub const FIRST_TYPE: Occurrence = Occurrence { place: FIRST, attribute: TERM_TYPE };
-const SECOND_TYPE: Occurrence = Occurrence { place: SECOND, attribute: TERM_TYPE };
-const FIRST_TERM_BAD: Occurrence = Occurrence { place: FIRST, attribute: TERM_BAD };
-const SECOND_TERM_BAD: Occurrence = Occurrence { place: SECOND, attribute: TERM_BAD };
+pub(crate) const IN: Occurrence = Occurrence {
+    place: OWN,
+    attribute: STEP_IN,
+};
+
+const ENV: Occurrence = Occurrence {
+    place: OWN,
+    attribute: STEP_ENV,
+};
+
+const FIRST_OUT: Occurrence = Occurrence {
+    place: FIRST,
+    attribute: STEP_OUT,
+};
+
+const FIRST_BAD: Occurrence = Occurrence {
+    place: FIRST,
+    attribute: STEP_BAD,
+};
+
+const SECOND_OUT: Occurrence = Occurrence {
+    place: SECOND,
+    attribute: STEP_OUT,
+};
+
+const SECOND_BAD: Occurrence = Occurrence {
+    place: SECOND,
+    attribute: STEP_BAD,
+};
+
+const ENV_OF_TERM: Occurrence = Occurrence {
+    place: OWN,
+    attribute: TERM_ENV,
+};
+
+pub(crate) const FIRST_TYPE: Occurrence = Occurrence {
+    place: FIRST,
+    attribute: TERM_TYPE,
+};
+
+const SECOND_TYPE: Occurrence = Occurrence {
+    place: SECOND,
+    attribute: TERM_TYPE,
+};
+
+const FIRST_TERM_BAD: Occurrence = Occurrence {
+    place: FIRST,
+    attribute: TERM_BAD,
+};
+
+const SECOND_TERM_BAD: Occurrence = Occurrence {
+    place: SECOND,
+    attribute: TERM_BAD,
+};
 
 // The language of session plans.
 pub struct Plan;
 
 pub impl Language for Plan as PlanLanguage {
     type Meaning = PlanFigure;
+
     type Row = PlanRow;
+
     type Value = PlanFigure;
 
     ghost grammar = { λ plan. plan-grammar };
@@ -155,7 +218,13 @@ pub impl Language for Plan as PlanLanguage {
         }
     }
 
-    fn evaluate(&self, production: u8, target: Occurrence, literal: i32, arguments: &Arguments<'_, PlanRow>) -> PlanFigure {
+    fn evaluate(
+        &self,
+        production: u8,
+        target: Occurrence,
+        literal: i32,
+        arguments: &Arguments<'_, PlanRow>,
+    ) -> PlanFigure {
         match (production, target.place, target.attribute) {
             (PLAN | BLOCK, FIRST, STEP_IN) => PlanFigure::Scope(0),
             (PLAN, FIRST, STEP_ENV) => PlanFigure::Scope(read_scope(arguments, 0)),
@@ -164,19 +233,41 @@ pub impl Language for Plan as PlanLanguage {
             (STEP_HOLE, OWN, STEP_BAD) => PlanFigure::Count(0),
             (TERM_HOLE, OWN, TERM_TYPE) => PlanFigure::Type(PlanType::Unknown),
             (TERM_HOLE, OWN, TERM_BAD) => PlanFigure::Count(0),
-            (CHAIN, FIRST | SECOND, STEP_IN | STEP_ENV) => PlanFigure::Scope(read_scope(arguments, 0)),
+            (CHAIN, FIRST | SECOND, STEP_IN | STEP_ENV) => PlanFigure::Scope(read_scope(
+                arguments,
+                0,
+            )),
             (CHAIN, OWN, STEP_OUT) => PlanFigure::Scope(read_scope(arguments, 0)),
-            (CHAIN, OWN, STEP_BAD) => PlanFigure::Count(sum(read_count(arguments, 0), read_count(arguments, 1))),
+            (CHAIN, OWN, STEP_BAD) => PlanFigure::Count(sum(
+                read_count(arguments, 0),
+                read_count(arguments, 1),
+            )),
             (DECLARATION, FIRST, TERM_ENV) => PlanFigure::Scope(read_scope(arguments, 0)),
-            (DECLARATION, OWN, STEP_OUT) => PlanFigure::Scope(scope_after(read_scope(arguments, 0), literal)),
-            (DECLARATION, OWN, STEP_BAD) => PlanFigure::Count(declaration_bad(read_type(arguments, 0), read_count(arguments, 1), literal)),
-            (BLOCK, FIRST, STEP_ENV) => PlanFigure::Scope(overlay(read_scope(arguments, 0), read_scope(arguments, 1))),
+            (DECLARATION, OWN, STEP_OUT) => PlanFigure::Scope(scope_after(
+                read_scope(arguments, 0),
+                literal,
+            )),
+            (DECLARATION, OWN, STEP_BAD) => PlanFigure::Count(declaration_bad(
+                read_type(arguments, 0),
+                read_count(arguments, 1),
+                literal,
+            )),
+            (BLOCK, FIRST, STEP_ENV) => PlanFigure::Scope(overlay(
+                read_scope(arguments, 0),
+                read_scope(arguments, 1),
+            )),
             (BLOCK, OWN, STEP_OUT) => PlanFigure::Scope(read_scope(arguments, 0)),
             (BLOCK, OWN, STEP_BAD) => PlanFigure::Count(read_count(arguments, 0)),
             (NUMBER, OWN, TERM_TYPE) => PlanFigure::Type(PlanType::Number),
             (NUMBER, OWN, TERM_BAD) => PlanFigure::Count(0),
-            (NAME, OWN, TERM_TYPE) => PlanFigure::Type(type_of_name(read_scope(arguments, 0), literal)),
-            (NAME, OWN, TERM_BAD) => PlanFigure::Count(name_bad(type_of_name(read_scope(arguments, 0), literal))),
+            (NAME, OWN, TERM_TYPE) => PlanFigure::Type(type_of_name(
+                read_scope(arguments, 0),
+                literal,
+            )),
+            (NAME, OWN, TERM_BAD) => PlanFigure::Count(name_bad(type_of_name(
+                read_scope(arguments, 0),
+                literal,
+            ))),
             (LESS, FIRST | SECOND, TERM_ENV) => PlanFigure::Scope(read_scope(arguments, 0)),
             (LESS, OWN, TERM_TYPE) => PlanFigure::Type(PlanType::Truth),
             (LESS, OWN, TERM_BAD) => PlanFigure::Count(comparison_bad(
@@ -195,11 +286,22 @@ pub impl Language for Plan as PlanLanguage {
             STEP_HOLE => &[Piece::Fixed(b"~")],
             TERM_HOLE => &[Piece::Fixed(b"_")],
             CHAIN => &[Piece::Child(1), Piece::Fixed(b";"), Piece::Child(2)],
-            DECLARATION => &[Piece::Fixed(b"let "), Piece::Literal, Piece::Fixed(b"="), Piece::Child(1)],
+            DECLARATION => &[
+                Piece::Fixed(b"let "),
+                Piece::Literal,
+                Piece::Fixed(b"="),
+                Piece::Child(1),
+            ],
             BLOCK => &[Piece::Fixed(b"{"), Piece::Child(1), Piece::Fixed(b"}")],
             NUMBER => &[Piece::Literal],
             NAME => &[Piece::Fixed(b"v"), Piece::Literal],
-            LESS => &[Piece::Fixed(b"("), Piece::Child(1), Piece::Fixed(b"<"), Piece::Child(2), Piece::Fixed(b")")],
+            LESS => &[
+                Piece::Fixed(b"("),
+                Piece::Child(1),
+                Piece::Fixed(b"<"),
+                Piece::Child(2),
+                Piece::Fixed(b")"),
+            ],
             _ => &[],
         }
     }

@@ -5,10 +5,13 @@ pub mod figure;
 pub mod language;
 pub mod rules;
 pub mod scope;
+pub mod theorems;
 
 pub use altered::AlteredPlan;
+pub use altered::AlteredPlanLanguage;
 pub use figure::PlanFigure;
+pub use figure::PlanFigureFigure;
 pub use figure::PlanRow;
 pub use figure::PlanType;
 pub use language::Plan;
-pub mod theorems;
+pub use language::PlanLanguage;

@@ -9,5 +9,5 @@ returns c =
     record {
       after-declaration = λ s n t k small h. entry-word (entry-declared s n t) (declared-small s n t small) 32 k h;
       laid-over = λ s t k h. entry-word (entry-overlaid s t) (overlaid-small s t) 32 k h;
-      told-by-entries = Words.told-by-entries
+      told-by-entries = Words.told-by-entries;
     }
