@@ -9,6 +9,39 @@ use crate::figure::PlanFigure;
 use crate::figure::PlanFigureFigure;
 use crate::figure::PlanRow;
 use crate::figure::PlanType;
+use crate::numbers::BLOCK;
+use crate::numbers::CHAIN;
+use crate::numbers::DECLARATION;
+use crate::numbers::ENV;
+use crate::numbers::ENV_OF_TERM;
+use crate::numbers::FIRST;
+use crate::numbers::FIRST_BAD;
+use crate::numbers::FIRST_OUT;
+use crate::numbers::FIRST_TERM_BAD;
+use crate::numbers::FIRST_TYPE;
+use crate::numbers::IN;
+use crate::numbers::LESS;
+use crate::numbers::NAME;
+use crate::numbers::NUMBER;
+use crate::numbers::OWN;
+use crate::numbers::PLAN;
+use crate::numbers::PLAN_BAD;
+use crate::numbers::SECOND;
+use crate::numbers::SECOND_BAD;
+use crate::numbers::SECOND_OUT;
+use crate::numbers::SECOND_TERM_BAD;
+use crate::numbers::SECOND_TYPE;
+use crate::numbers::STEP;
+use crate::numbers::STEP_BAD;
+use crate::numbers::STEP_ENV;
+use crate::numbers::STEP_HOLE;
+use crate::numbers::STEP_IN;
+use crate::numbers::STEP_OUT;
+use crate::numbers::TERM;
+use crate::numbers::TERM_BAD;
+use crate::numbers::TERM_ENV;
+use crate::numbers::TERM_HOLE;
+use crate::numbers::TERM_TYPE;
 use crate::rules::comparison_bad;
 use crate::rules::declaration_bad;
 use crate::rules::name_bad;
@@ -20,110 +53,6 @@ use grammar::Arguments;
 use grammar::Language;
 use grammar::Occurrence;
 use grammar::Piece;
-
-// the symbols past the first, which is the plan
-const STEP: u8 = 1;
-
-const TERM: u8 = 2;
-
-// the productions
-pub(crate) const PLAN: u8 = 0;
-
-pub(crate) const STEP_HOLE: u8 = 1;
-
-pub(crate) const TERM_HOLE: u8 = 2;
-
-pub(crate) const CHAIN: u8 = 3;
-
-pub(crate) const DECLARATION: u8 = 4;
-
-pub(crate) const BLOCK: u8 = 5;
-
-pub(crate) const NUMBER: u8 = 6;
-
-pub(crate) const NAME: u8 = 7;
-
-pub(crate) const LESS: u8 = 8;
-
-// the places of a production
-pub(crate) const OWN: u8 = 0;
-
-pub(crate) const FIRST: u8 = 1;
-
-pub(crate) const SECOND: u8 = 2;
-
-// the attributes of a plan, a step and a term
-const PLAN_BAD: u8 = 0;
-
-pub(crate) const STEP_IN: u8 = 0;
-
-const STEP_ENV: u8 = 1;
-
-pub(crate) const STEP_OUT: u8 = 2;
-
-const STEP_BAD: u8 = 3;
-
-const TERM_ENV: u8 = 0;
-
-pub(crate) const TERM_TYPE: u8 = 1;
-
-const TERM_BAD: u8 = 2;
-
-// what rules take
-pub(crate) const IN: Occurrence = Occurrence {
-    place: OWN,
-    attribute: STEP_IN,
-};
-
-const ENV: Occurrence = Occurrence {
-    place: OWN,
-    attribute: STEP_ENV,
-};
-
-const FIRST_OUT: Occurrence = Occurrence {
-    place: FIRST,
-    attribute: STEP_OUT,
-};
-
-const FIRST_BAD: Occurrence = Occurrence {
-    place: FIRST,
-    attribute: STEP_BAD,
-};
-
-const SECOND_OUT: Occurrence = Occurrence {
-    place: SECOND,
-    attribute: STEP_OUT,
-};
-
-const SECOND_BAD: Occurrence = Occurrence {
-    place: SECOND,
-    attribute: STEP_BAD,
-};
-
-const ENV_OF_TERM: Occurrence = Occurrence {
-    place: OWN,
-    attribute: TERM_ENV,
-};
-
-pub(crate) const FIRST_TYPE: Occurrence = Occurrence {
-    place: FIRST,
-    attribute: TERM_TYPE,
-};
-
-const SECOND_TYPE: Occurrence = Occurrence {
-    place: SECOND,
-    attribute: TERM_TYPE,
-};
-
-const FIRST_TERM_BAD: Occurrence = Occurrence {
-    place: FIRST,
-    attribute: TERM_BAD,
-};
-
-const SECOND_TERM_BAD: Occurrence = Occurrence {
-    place: SECOND,
-    attribute: TERM_BAD,
-};
 
 // The language of session plans.
 pub struct Plan;

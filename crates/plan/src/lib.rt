@@ -3,6 +3,7 @@ pub mod altered;
 pub mod arguments;
 pub mod figure;
 pub mod language;
+mod numbers;
 pub mod rules;
 pub mod scope;
 pub mod theorems;
