@@ -1,0 +1,3 @@
+// Scripts: the calls that a line of a script makes, and the lines that answer them.
+ghost use Prim.Native.Nat.{ℕ};
+pub mod words;
