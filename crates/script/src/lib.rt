@@ -2,5 +2,6 @@
 ghost use Prim.Native.Nat.{ℕ};
 pub mod answer;
 pub mod call;
+pub mod printing;
 pub mod reading;
 pub mod words;
