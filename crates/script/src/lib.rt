@@ -2,6 +2,7 @@
 ghost use Prim.Native.Nat.{ℕ};
 pub mod answer;
 pub mod call;
+pub mod conversation;
 pub mod printing;
 pub mod reading;
 pub mod words;
