@@ -3,3 +3,4 @@ pub mod Reading
 pub mod Answers
 pub mod Printed
 pub mod Transcript
+pub mod Testing

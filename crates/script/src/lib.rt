@@ -5,4 +5,5 @@ pub mod call;
 pub mod conversation;
 pub mod printing;
 pub mod reading;
+pub mod testing;
 pub mod words;
