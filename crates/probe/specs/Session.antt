@@ -19,9 +19,11 @@ on Formula = OnFormula
 on Plan = OnPlan
 on Altered = OnAltered
 
+-- the language is the one that the session works in from here on
 abbrev pub IsChosen : LanguageName → Answer → Session → Type 0
 IsChosen name answer after = (answer ≡ Done) × (after ≡ on name)
 
+-- a language is chosen already, and stays
 abbrev pub IsKept : Session → Answer → Session → Type 0
 IsKept before answer after = (answer ≡ NotAccepted LanguageChosen) × (after ≡ before)
 
@@ -43,6 +45,7 @@ TestedIn OnFormula answer = Tested formula-grammar answer
 TestedIn OnPlan answer = Tested plan-grammar answer
 TestedIn OnAltered answer = Tested altered-grammar answer
 
+-- which answer a call gets, and the session after it
 abbrev pub Answered : Session → Call → Answer → Session → Type 0
 Answered before (Language name) answer after = Chosen before name answer after
 Answered before Test answer after = TestedIn before answer × (after ≡ before)

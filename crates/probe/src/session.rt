@@ -39,7 +39,9 @@ impl Session {
         ensures { λ r. ⌜ Chosen (now (self .entry)) name r (now (self .exit)) ⌝ }
     {
         match (*self, name) {
-            (Session::Unchosen, _) | (Session::OnPlan, LanguageName::Altered) | (Session::OnAltered, LanguageName::Plan) => {
+            (Session::Unchosen, _)
+            | (Session::OnPlan, LanguageName::Altered)
+            | (Session::OnAltered, LanguageName::Plan) => {
                 *self = on(name);
                 Answer::Done
             }

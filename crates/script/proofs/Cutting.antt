@@ -68,13 +68,13 @@ pub words-cut : (xs : List ℕ) (n : ℕ) → 0 < n → n ≤ length xs → Answ
     → (n < length xs → is-blank (getD xs n 0) ≡ true) → words xs ≡ take n xs ∷ words (drop n xs)
 words-cut xs n pos le h ends =
     elim (eq-or-lt-of-le le) [
-      inl e ↦ let end : length xs ≤ n = omega arith in
-        ap filled (pieces-whole is-blank xs (λ k lt. h k (omega arith)))
-        ∙ filled-word xs [] (omega arith)
-        ∙ rw (take-all n xs end, drop-all n xs end)
-    | inr lt ↦ ap filled (pieces-cut is-blank xs n lt h (ends lt))
-        ∙ filled-word (take n xs) (pieces is-blank (drop (suc n) xs)) (simp length-take (omega arith))
-        ∙ ap (λ ws. take n xs ∷ ws) (sym (words-at-blank xs n lt (ends lt)))
+      | inl e ↦ let end : length xs ≤ n = omega arith in
+          ap filled (pieces-whole is-blank xs (λ k lt. h k (omega arith)))
+          ∙ filled-word xs [] (omega arith)
+          ∙ rw (take-all n xs end, drop-all n xs end)
+      | inr lt ↦ ap filled (pieces-cut is-blank xs n lt h (ends lt))
+          ∙ filled-word (take n xs) (pieces is-blank (drop (suc n) xs)) (simp length-take (omega arith))
+          ∙ ap (λ ws. take n xs ∷ ws) (sym (words-at-blank xs n lt (ends lt)))
     ]
 
 -- the opposite of an answer
@@ -103,10 +103,10 @@ pub first-line : (xs : List ℕ) (n : ℕ) → Leads Line xs n → n < length xs
 first-line xs n leads lt =
     record {
       lines-are =
-        pieces-cut is-line-feed xs n lt (λ k below. turned (is-line-feed (getD xs k 0)) (leads .before k below))
-            (turned-back (is-line-feed (getD xs n 0)) (leads .behind lt))
-        ∙ rw (part-to-end xs (n + 1), add-one n, sub-zero n);
-      shorter = rw (part-to-end xs (n + 1)) (simp length-drop (omega arith))
+          pieces-cut is-line-feed xs n lt (λ k below. turned (is-line-feed (getD xs k 0)) (leads .before k below))
+          (turned-back (is-line-feed (getD xs n 0)) (leads .behind lt))
+          ∙ rw (part-to-end xs (n + 1), add-one n, sub-zero n);
+      shorter = rw (part-to-end xs (n + 1)) (simp length-drop (omega arith));
     }
 
 -- no word where no byte of a word follows the blanks; ys is what follows them
@@ -114,13 +114,13 @@ pub no-word : (xs ys : List ℕ) (m n : ℕ) → ys ≡ drop m xs → Leads Blan
 no-word xs ys m n e blanks word none =
     words-past-blanks xs m (blanks .before)
     ∙ elim (eq-or-lt-of-le (blanks .within)) [
-      inl end ↦ ap words (drop-all m xs (omega arith))
-    | inr lt ↦ absurd
-        (let at : getD ys n 0 ≡ getD xs m 0 = ap (λ k. getD ys k 0) none ∙ ap (λ zs. getD zs 0 0) (e ∙ drop-cons xs m 0 lt) in
-        let one = blanks .behind lt in
-        let other = turned-back (is-blank (getD ys n 0)) (word .behind (rw e (simp length-drop (omega arith)))) in
-        let apart : _≡_ {A = ℕ} 0 1 = unlike (sym one ∙ ap is-blank (sym at) ∙ other) in
-        omega arith)
+      | inl end ↦ ap words (drop-all m xs (omega arith))
+      | inr lt ↦ absurd
+          (let at : getD ys n 0 ≡ getD xs m 0 = ap (λ k. getD ys k 0) none ∙ ap (λ zs. getD zs 0 0) (e ∙ drop-cons xs m 0 lt) in
+          let one = blanks .behind lt in
+          let other = turned-back (is-blank (getD ys n 0)) (word .behind (rw e (simp length-drop (omega arith)))) in
+          let apart : _≡_ {A = ℕ} 0 1 = unlike (sym one ∙ ap is-blank (sym at) ∙ other) in
+          omega arith)
     ]
 
 pub first-word : (xs ys : List ℕ) (m n : ℕ) → ys ≡ drop m xs → Leads Blanks xs m → Leads Word ys n → 0 < n
@@ -128,11 +128,11 @@ pub first-word : (xs ys : List ℕ) (m n : ℕ) → ys ≡ drop m xs → Leads B
 first-word xs ys m n e blanks word pos =
     record {
       words-are =
-        words-past-blanks xs m (blanks .before)
-        ∙ ap words (sym e)
-        ∙ words-cut ys n pos (word .within) (λ k below. turned (is-blank (getD ys k 0)) (word .before k below))
-            (λ lt. turned-back (is-blank (getD ys n 0)) (word .behind lt))
-        ∙ rw (part-to-end ys n, sub-zero n);
+          words-past-blanks xs m (blanks .before)
+          ∙ ap words (sym e)
+          ∙ words-cut ys n pos (word .within) (λ k below. turned (is-blank (getD ys k 0)) (word .before k below))
+          (λ lt. turned-back (is-blank (getD ys n 0)) (word .behind lt))
+          ∙ rw (part-to-end ys n, sub-zero n);
       some = simp length-take (omega (arith, word .within));
-      shorter = rw (part-to-end ys n) (simp length-drop (let s : length ys ≡ length xs - m = ap length e ∙ length-drop m xs in omega (arith, word .within)))
+      shorter = rw (part-to-end ys n) (simp length-drop (let s : length ys ≡ length xs - m = ap length e ∙ length-drop m xs in omega (arith, word .within)));
     }

@@ -29,7 +29,6 @@ first-and-left input line None h = h
 first-and-left input line (Some r) h = h .lines-are
 
 module _ {S : Type 0} (answers : S → Call → Answer → S → Type 0) (closing : S → Answer) (start : S) (all : List (List ℕ)) where
-
   -- the conversation is at `here`, `out` is printed, and `rest` is left
   abbrev pub Goes : S → List ℕ → List (List ℕ) → Type 0
   Goes here out rest =
@@ -40,8 +39,8 @@ module _ {S : Type 0} (answers : S → Call → Answer → S → Type 0) (closin
   goes-on here after out printed more line before rest e goes prints m others t =
       let whole : Goes here out (line ∷ rest) = subst (λ ls. Goes here out ls) e goes in
       subst (λ bytes. Transcript answers closing start all bytes)
-          (sym (append-assoc out printed others) ∙ ap (λ ys. ys ++ others) (sym m))
-          (whole (printed ++ others) (printed, others, after, prints, t, refl))
+      (sym (append-assoc out printed others) ∙ ap (λ ys. ys ++ others) (sym m))
+      (whole (printed ++ others) (printed, others, after, prints, t, refl))
 
   pub goes-to-end : (here : S) (out whole : List ℕ) → Goes here out [] → whole ≡ out ++ last-line (closing here)
       → Transcript answers closing start all whole

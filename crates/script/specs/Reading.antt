@@ -20,12 +20,15 @@ use Rattle.script.specs.Words.{words}
 abbrev pub language-named : List ℕ → Line
 language-named name =
     elim (sameBytes name (codes "formula")) [
-      true ↦ Made (Language Formula)
-    | false ↦ elim (sameBytes name (codes "plan")) [
-      true ↦ Made (Language Plan)
-    | false ↦ elim (sameBytes name (codes "altered")) [
-      true ↦ Made (Language Altered)
-    | false ↦ NotRead UnknownLanguage ] ] ]
+      | true ↦ Made (Language Formula)
+      | false ↦ elim (sameBytes name (codes "plan")) [
+        | true ↦ Made (Language Plan)
+        | false ↦ elim (sameBytes name (codes "altered")) [
+          | true ↦ Made (Language Altered)
+          | false ↦ NotRead UnknownLanguage
+        ]
+      ]
+    ]
 
 -- the words behind `language`: the name of a language
 abbrev pub language-line : List (List ℕ) → Line
@@ -42,10 +45,12 @@ test-line (more ∷ rest) = NotRead WrongNumberOfWords
 abbrev pub call-line : List ℕ → List (List ℕ) → Line
 call-line name arguments =
     elim (sameBytes name (codes "language")) [
-      true ↦ language-line arguments
-    | false ↦ elim (sameBytes name (codes "test")) [
-      true ↦ test-line arguments
-    | false ↦ NotRead UnknownCall ] ]
+      | true ↦ language-line arguments
+      | false ↦ elim (sameBytes name (codes "test")) [
+        | true ↦ test-line arguments
+        | false ↦ NotRead UnknownCall
+      ]
+    ]
 
 -- A line without words and a comment, whose first word begins with `#`, are passed over.
 abbrev pub words-line : List (List ℕ) → Line

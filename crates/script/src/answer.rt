@@ -15,7 +15,11 @@ use std::alloc::Global;
 pub enum Answer {
     Done,
     Passes(u16),
-    Refused { number: u8, layer: Layer, named: Named },
+    Refused {
+        number: u8,
+        layer: Layer,
+        named: Named,
+    },
     NotAccepted(Reason),
     NoSheet,
 }
@@ -62,7 +66,11 @@ impl Answer {
         match self {
             Answer::Done => String::from_str(heap, "ok"),
             Answer::Passes(relations) => format!(heap, "passes {relations}"),
-            Answer::Refused { number, layer, named } => {
+            Answer::Refused {
+                number,
+                layer,
+                named,
+            } => {
                 let from = layer_text(layer);
                 let about = named_text(heap, named)?;
                 format!(heap, "refused {number} {from}{about}")
@@ -81,7 +89,11 @@ impl Answer {
     {
         match result {
             Ok(passes) => Answer::Passes(passes.relations),
-            Err(fault) => Answer::Refused { number: fault.number(), layer: fault.layer(), named: fault.names() },
+            Err(fault) => Answer::Refused {
+                number: fault.number(),
+                layer: fault.layer(),
+                named: fault.names(),
+            },
         }
     }
 }

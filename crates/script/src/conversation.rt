@@ -33,7 +33,12 @@ pub trait Conversation {
 }
 
 // Answers one line of the script, and prints what there is to print.
-fn answer_line<C: Conversation>(heap: Global, out: &mut Vec<u8>, conversation: &mut C, line: &[u8]) -> Result<(), AllocError>
+fn answer_line<C: Conversation>(
+    heap: Global,
+    out: &mut Vec<u8>,
+    conversation: &mut C,
+    line: &[u8],
+) -> Result<(), AllocError>
     ensures { λ r. ⌜ made r (λ _. (printed : List ℕ) × (vec-items (now (out .exit)) ≡ vec-items (now (out .entry)) ++ printed) × Prints (C·Conversation .answers) (now (conversation .entry)) (now (line .entry)) printed (now (conversation .exit))) ⌝ }
 {
     let answer = match read_line(line) {
@@ -46,7 +51,11 @@ fn answer_line<C: Conversation>(heap: Global, out: &mut Vec<u8>, conversation: &
 }
 
 // Goes through a whole script, and gives what is printed for it.
-pub fn run<C: Conversation>(heap: Global, conversation: &mut C, input: &[u8]) -> Result<Vec<u8>, AllocError>
+pub fn run<C: Conversation>(
+    heap: Global,
+    conversation: &mut C,
+    input: &[u8],
+) -> Result<Vec<u8>, AllocError>
     ensures { λ r. ⌜ made r (λ out. Transcript (C·Conversation .answers) (C·Conversation .closing) (now (conversation .entry)) (lines (now (input .entry))) (vec-items out)) ⌝ }
 {
     let mut out = Vec::new(heap);

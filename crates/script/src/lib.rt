@@ -1,5 +1,6 @@
 // Scripts: the calls that a line of a script makes, and the lines that answer them.
 ghost use Prim.Native.Nat.{ℕ};
+
 pub mod answer;
 pub mod call;
 pub mod conversation;

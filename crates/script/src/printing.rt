@@ -34,7 +34,12 @@ fn print_answer(heap: Global, out: &mut Vec<u8>, answer: Answer) -> Result<(), A
 }
 
 // Prints the line that answers a line of the script.
-pub fn print_reply(heap: Global, out: &mut Vec<u8>, line: &[u8], answer: Answer) -> Result<(), AllocError>
+pub fn print_reply(
+    heap: Global,
+    out: &mut Vec<u8>,
+    line: &[u8],
+    answer: Answer,
+) -> Result<(), AllocError>
     ensures { λ r. ⌜ made r (λ _. vec-items (now (out .exit)) ≡ vec-items (now (out .entry)) ++ reply (words (now (line .entry))) answer) ⌝ }
 {
     print_words(out, line)?;

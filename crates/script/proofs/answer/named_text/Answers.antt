@@ -1,3 +1,4 @@
+-- The text of a production that is named.
 use Rattle.script.proofs.answer.named_text.Needs as need
 
 pub returns-in-Production : need.returns-in-Production

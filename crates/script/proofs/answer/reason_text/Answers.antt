@@ -1,3 +1,4 @@
+-- The text of each reason.
 use mathlib.Core.Path.{sym, ap}
 use Rattle.script.specs.Answers.{reason-text}
 use Rattle.script.proofs.answer.reason_text.Needs as need

@@ -1,3 +1,4 @@
+-- The words that are printed, and those that are left.
 use mathlib.Core.List.{_++_}
 use mathlib.Core.Path.{_≡_}
 use lib.ListN.{length}

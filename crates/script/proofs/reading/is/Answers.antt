@@ -1,3 +1,4 @@
+-- Comparing bytes answers whether they are the same.
 use mathlib.Core.Bool.{Bool, true, false}
 use mathlib.Core.Path.{_≡_, refl, sym}
 use Rattle.std.specs.Orderings.{Decides}
@@ -12,4 +13,4 @@ same-answer P false false one other = refl
 pub returns : need.returns
 returns c =
     same-answer (c .args .word .now ≡ c .args .bytes .now) _ _ (matches-decides _ _ _ (c .eq .ensures))
-        (sameBytes-decides (c .args .word .now) (c .args .bytes .now))
+    (sameBytes-decides (c .args .word .now) (c .args .bytes .now))

@@ -1,3 +1,4 @@
+-- The first line: lemmas on where bytes are cut.
 use native.Mathlib.Omega.{arith}
 use Rattle.script.proofs.Cutting.{last-line, first-line}
 use Rattle.script.proofs.words.first_line.Needs as need

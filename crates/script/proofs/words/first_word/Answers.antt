@@ -1,3 +1,4 @@
+-- The first word: lemmas on where bytes are cut.
 use native.Mathlib.Omega.{arith}
 use Rattle.script.proofs.Cutting.{no-word, first-word, part-to-end}
 use Rattle.script.proofs.words.first_word.Needs as need

@@ -1,3 +1,4 @@
+-- Every byte that the search has passed belongs to the run.
 use Prim.Native.Nat.{ℕ, _<_}
 use mathlib.Core.Bool.{true}
 use mathlib.Core.Path.{_≡_}
