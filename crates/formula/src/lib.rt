@@ -1,7 +1,10 @@
 // Price formulas: a language of sums, differences, products, quotients, choices and bindings, behind the interface of languages.
 pub mod quantity;
 pub mod reading;
+pub mod rules;
 
 pub use quantity::Quantity;
+pub use quantity::row::QuantityFigure;
+pub use quantity::row::QuantityRow;
 pub use reading::Reading;
 pub use reading::Trouble;
