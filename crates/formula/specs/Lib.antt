@@ -1,3 +1,6 @@
 pub mod Readings
 pub mod Rows
 pub mod Rules
+pub mod Operations
+pub mod Table
+pub mod Keeping

@@ -1,8 +1,12 @@
 // Price formulas: a language of sums, differences, products, quotients, choices and bindings, behind the interface of languages.
+pub mod language;
+pub mod operation;
 pub mod quantity;
 pub mod reading;
 pub mod rules;
 
+pub use language::Formula;
+pub use language::FormulaLanguage;
 pub use quantity::Quantity;
 pub use quantity::row::QuantityFigure;
 pub use quantity::row::QuantityRow;
