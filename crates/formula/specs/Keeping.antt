@@ -15,7 +15,7 @@ zero-is : (l : ℤ) → T (eqb (natAbs l) 0) → l ≡ pos 0
 zero-is (pos n) t = ap pos (eqb→eq n 0 t)
 zero-is (negsuc n) t = absurd (omega (arith, eqb→eq (suc n) 0 t))
 
-in-range-lawful : (l : ℤ) → T (in-range l) → Lawful l
+pub in-range-lawful : (l : ℤ) → T (in-range l) → Lawful l
 in-range-lawful l t = both (leZ (negsuc 999999999) l) (leZ l (pos 1000000000)) t (λ u v. (record { le = u }, record { le = v }))
   where
     both : (x y : Bool) → T (x && y) → (T x → T y → Lawful l) → Lawful l

@@ -4,3 +4,5 @@ pub mod Rules
 pub mod Operations
 pub mod Table
 pub mod Keeping
+pub mod Meaning
+pub mod Examples

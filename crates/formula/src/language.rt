@@ -18,6 +18,7 @@ pub struct Formula;
 
 // The productions.
 const SHEET: u8 = 0;
+const HOLE: u8 = 1;
 const CONSTANT: u8 = 2;
 const IT: u8 = 3;
 const SUM: u8 = 4;
@@ -27,7 +28,11 @@ const QUOTIENT: u8 = 7;
 const CHOOSE: u8 = 8;
 const LET: u8 = 9;
 
-// The arguments of the rules: what is bound, and the values of the children.
+// The symbol of expressions; that of sheets is 0.
+const E: u8 = 1;
+
+// The arguments of the rules: what an expression has bound to it, and the values of the children. An expression's attribute 0 is what is
+// bound to it, and attribute 1 its value; a sheet's attribute 0 is its value.
 const BOUND: Occurrence = Occurrence {
     place: 0,
     attribute: 0,
@@ -50,18 +55,17 @@ fn operation(production: u8, target: Occurrence) -> Operation
     ensures { λ r. ⌜ r ≡ operation-of production (target .place) (target .attribute) ⌝ }
 {
     match (production, target.place, target.attribute) {
-        (0, 0, 0) => Operation::Same,
-        (0, 1, 0) => Operation::Unbound,
-        (1, 0, 1) => Operation::Hole,
-        (2, 0, 1) => Operation::Literal,
-        (3, 0, 1) => Operation::Same,
-        (4, 0, 1) => Operation::Sum,
-        (5, 0, 1) => Operation::Difference,
-        (6, 0, 1) => Operation::Product,
-        (7, 0, 1) => Operation::Quotient,
-        (8, 0, 1) => Operation::Choose,
-        (9, 0, 1) => Operation::Same,
-        (4..=9, 1 | 2, 0) | (8, 3, 0) => Operation::Same,
+        (SHEET, 0, 0) => Operation::Same,
+        (SHEET, 1, 0) => Operation::Unbound,
+        (HOLE, 0, 1) => Operation::Hole,
+        (CONSTANT, 0, 1) => Operation::Literal,
+        (SUM, 0, 1) => Operation::Sum,
+        (DIFFERENCE, 0, 1) => Operation::Difference,
+        (PRODUCT, 0, 1) => Operation::Product,
+        (QUOTIENT, 0, 1) => Operation::Quotient,
+        (CHOOSE, 0, 1) => Operation::Choose,
+        (IT | LET, 0, 1) => Operation::Same,
+        (SUM..=LET, 1 | 2, 0) | (CHOOSE, 3, 0) => Operation::Same,
         _ => Operation::Nothing,
     }
 }
@@ -89,50 +93,50 @@ pub impl Language for Formula as FormulaLanguage {
 
     fn inherited(&self, symbol: u8) -> u8 {
         match symbol {
-            1 => 1,
+            E => 1,
             _ => 0,
         }
     }
 
     fn synthesized(&self, symbol: u8) -> u8 {
         match symbol {
-            0 | 1 => 1,
+            0 | E => 1,
             _ => 0,
         }
     }
 
     fn symbol(&self, production: u8) -> u8 {
         match production {
-            0 => 0,
-            _ => 1,
+            SHEET => 0,
+            _ => E,
         }
     }
 
     fn children(&self, production: u8) -> &[u8] {
         match production {
-            0 => &[1],
-            4..=7 | 9 => &[1, 1],
-            8 => &[1, 1, 1],
+            SHEET => &[E],
+            SUM..=QUOTIENT | LET => &[E, E],
+            CHOOSE => &[E, E, E],
             _ => &[],
         }
     }
 
     fn accepts(&self, production: u8, literal: i32) -> bool {
         match production {
-            2 => in_range(literal as i64),
+            CONSTANT => in_range(literal as i64),
             _ => literal == 0,
         }
     }
 
     fn arguments(&self, production: u8, target: Occurrence) -> &[Occurrence] {
         match (production, target.place, target.attribute) {
-            (0, 0, 0) => &[A],
-            (3, 0, 1) => &[BOUND],
-            (4..=7, 0, 1) => &[A, B],
-            (8, 0, 1) => &[A, B, C],
-            (9, 0, 1) => &[B],
-            (9, 2, 0) => &[A],
-            (4..=8, 1 | 2, 0) | (8, 3, 0) | (9, 1, 0) => &[BOUND],
+            (SHEET, 0, 0) => &[A],
+            (IT, 0, 1) => &[BOUND],
+            (SUM..=QUOTIENT, 0, 1) => &[A, B],
+            (CHOOSE, 0, 1) => &[A, B, C],
+            (LET, 0, 1) => &[B],
+            (LET, 2, 0) => &[A],
+            (SUM..=CHOOSE, 1 | 2, 0) | (CHOOSE, 3, 0) | (LET, 1, 0) => &[BOUND],
             _ => &[],
         }
     }
@@ -143,16 +147,16 @@ pub impl Language for Formula as FormulaLanguage {
 
     fn pieces(&self, production: u8) -> &[Piece] {
         match production {
-            0 => &[Piece::Child(1)],
-            1 => &[Piece::Fixed(b"_")],
-            2 => &[Piece::Literal],
-            3 => &[Piece::Fixed(b"it")],
-            4 => &[Piece::Fixed(b"("), Piece::Child(1), Piece::Fixed(b"+"), Piece::Child(2), Piece::Fixed(b")")],
-            5 => &[Piece::Fixed(b"("), Piece::Child(1), Piece::Fixed(b"-"), Piece::Child(2), Piece::Fixed(b")")],
-            6 => &[Piece::Fixed(b"("), Piece::Child(1), Piece::Fixed(b"*"), Piece::Child(2), Piece::Fixed(b")")],
-            7 => &[Piece::Fixed(b"("), Piece::Child(1), Piece::Fixed(b"/"), Piece::Child(2), Piece::Fixed(b")")],
-            8 => &[Piece::Fixed(b"["), Piece::Child(1), Piece::Fixed(b"?"), Piece::Child(2), Piece::Fixed(b":"), Piece::Child(3), Piece::Fixed(b"]")],
-            9 => &[Piece::Fixed(b"{"), Piece::Child(1), Piece::Fixed(b";"), Piece::Child(2), Piece::Fixed(b"}")],
+            SHEET => &[Piece::Child(1)],
+            HOLE => &[Piece::Fixed(b"_")],
+            CONSTANT => &[Piece::Literal],
+            IT => &[Piece::Fixed(b"it")],
+            SUM => &[Piece::Fixed(b"("), Piece::Child(1), Piece::Fixed(b"+"), Piece::Child(2), Piece::Fixed(b")")],
+            DIFFERENCE => &[Piece::Fixed(b"("), Piece::Child(1), Piece::Fixed(b"-"), Piece::Child(2), Piece::Fixed(b")")],
+            PRODUCT => &[Piece::Fixed(b"("), Piece::Child(1), Piece::Fixed(b"*"), Piece::Child(2), Piece::Fixed(b")")],
+            QUOTIENT => &[Piece::Fixed(b"("), Piece::Child(1), Piece::Fixed(b"/"), Piece::Child(2), Piece::Fixed(b")")],
+            CHOOSE => &[Piece::Fixed(b"["), Piece::Child(1), Piece::Fixed(b"?"), Piece::Child(2), Piece::Fixed(b":"), Piece::Child(3), Piece::Fixed(b"]")],
+            LET => &[Piece::Fixed(b"{"), Piece::Child(1), Piece::Fixed(b";"), Piece::Child(2), Piece::Fixed(b"}")],
             _ => &[],
         }
     }

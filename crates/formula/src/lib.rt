@@ -1,9 +1,10 @@
 // Price formulas: a language of sums, differences, products, quotients, choices and bindings, behind the interface of languages.
 pub mod language;
-pub mod operation;
+pub mod meaning;
+mod operation;
 pub mod quantity;
 pub mod reading;
-pub mod rules;
+mod rules;
 
 pub use language::Formula;
 pub use language::FormulaLanguage;
