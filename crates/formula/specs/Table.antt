@@ -87,10 +87,10 @@ the-productions =
     ∷ two Quotient (codes "/")
     -- 8 choose: the branch that is not taken is an argument too
     ∷ expression (E ∷ E ∷ E ∷ []) (bytes (codes "[") ∷ child 1 ∷ bytes (codes "?") ∷ child 2 ∷ bytes (codes ":") ∷ child 3 ∷ bytes (codes "]") ∷ [])
-      (by val Choose (val-of 1 ∷ val-of 2 ∷ val-of 3 ∷ []) ∷ hands-on 1 ∷ hands-on 2 ∷ hands-on 3 ∷ [])
+    (by val Choose (val-of 1 ∷ val-of 2 ∷ val-of 3 ∷ []) ∷ hands-on 1 ∷ hands-on 2 ∷ hands-on 3 ∷ [])
     -- 9 let: the second child's it is the first child's val
     ∷ expression (E ∷ E ∷ []) (bytes (codes "{") ∷ child 1 ∷ bytes (codes ";") ∷ child 2 ∷ bytes (codes "}") ∷ [])
-      (by val Same (val-of 2 ∷ []) ∷ hands-on 1 ∷ by (it-of 2) Same (val-of 1 ∷ []) ∷ [])
+    (by val Same (val-of 2 ∷ []) ∷ hands-on 1 ∷ by (it-of 2) Same (val-of 1 ∷ []) ∷ [])
     ∷ []
 
 -- production p; past the last one an expression of nothing, which means nothing
@@ -114,7 +114,7 @@ table =
       symbol = λ p. production p .symbol;
       children = λ p. production p .children;
       rules = λ p. map rule-of (production p .lines);
-      accepts = accepted
+      accepts = accepted;
     }
 
 -- the operation of the rule for attribute a at place i: that of the first rule with that target

@@ -18,14 +18,23 @@ pub struct Formula;
 
 // The productions.
 const SHEET: u8 = 0;
+
 const HOLE: u8 = 1;
+
 const CONSTANT: u8 = 2;
+
 const IT: u8 = 3;
+
 const SUM: u8 = 4;
+
 const DIFFERENCE: u8 = 5;
+
 const PRODUCT: u8 = 6;
+
 const QUOTIENT: u8 = 7;
+
 const CHOOSE: u8 = 8;
+
 const LET: u8 = 9;
 
 // The symbol of expressions; that of sheets is 0.
@@ -37,18 +46,32 @@ const BOUND: Occurrence = Occurrence {
     place: 0,
     attribute: 0,
 };
+
 const A: Occurrence = Occurrence {
     place: 1,
     attribute: 1,
 };
+
 const B: Occurrence = Occurrence {
     place: 2,
     attribute: 1,
 };
+
 const C: Occurrence = Occurrence {
     place: 3,
     attribute: 1,
 };
+
+// The pieces that several texts have: the children, and the brackets of an operation on two.
+const FIRST: Piece = Piece::Child(1);
+
+const SECOND: Piece = Piece::Child(2);
+
+const THIRD: Piece = Piece::Child(3);
+
+const OPEN: Piece = Piece::Fixed(b"(");
+
+const CLOSE: Piece = Piece::Fixed(b")");
 
 // The operation of the rule for a target, by production, place and attribute.
 fn operation(production: u8, target: Occurrence) -> Operation
@@ -72,7 +95,9 @@ fn operation(production: u8, target: Occurrence) -> Operation
 
 pub impl Language for Formula as FormulaLanguage {
     type Meaning = Reading;
+
     type Row = QuantityRow;
+
     type Value = Quantity;
 
     ghost grammar = { λ _. table };
@@ -141,22 +166,42 @@ pub impl Language for Formula as FormulaLanguage {
         }
     }
 
-    fn evaluate(&self, production: u8, target: Occurrence, literal: i32, arguments: &Arguments<'_, QuantityRow>) -> Quantity {
+    fn evaluate(
+        &self,
+        production: u8,
+        target: Occurrence,
+        literal: i32,
+        arguments: &Arguments<'_, QuantityRow>,
+    ) -> Quantity {
         operation(production, target).apply(literal, arguments)
     }
 
     fn pieces(&self, production: u8) -> &[Piece] {
         match production {
-            SHEET => &[Piece::Child(1)],
+            SHEET => &[FIRST],
             HOLE => &[Piece::Fixed(b"_")],
             CONSTANT => &[Piece::Literal],
             IT => &[Piece::Fixed(b"it")],
-            SUM => &[Piece::Fixed(b"("), Piece::Child(1), Piece::Fixed(b"+"), Piece::Child(2), Piece::Fixed(b")")],
-            DIFFERENCE => &[Piece::Fixed(b"("), Piece::Child(1), Piece::Fixed(b"-"), Piece::Child(2), Piece::Fixed(b")")],
-            PRODUCT => &[Piece::Fixed(b"("), Piece::Child(1), Piece::Fixed(b"*"), Piece::Child(2), Piece::Fixed(b")")],
-            QUOTIENT => &[Piece::Fixed(b"("), Piece::Child(1), Piece::Fixed(b"/"), Piece::Child(2), Piece::Fixed(b")")],
-            CHOOSE => &[Piece::Fixed(b"["), Piece::Child(1), Piece::Fixed(b"?"), Piece::Child(2), Piece::Fixed(b":"), Piece::Child(3), Piece::Fixed(b"]")],
-            LET => &[Piece::Fixed(b"{"), Piece::Child(1), Piece::Fixed(b";"), Piece::Child(2), Piece::Fixed(b"}")],
+            SUM => &[OPEN, FIRST, Piece::Fixed(b"+"), SECOND, CLOSE],
+            DIFFERENCE => &[OPEN, FIRST, Piece::Fixed(b"-"), SECOND, CLOSE],
+            PRODUCT => &[OPEN, FIRST, Piece::Fixed(b"*"), SECOND, CLOSE],
+            QUOTIENT => &[OPEN, FIRST, Piece::Fixed(b"/"), SECOND, CLOSE],
+            CHOOSE => &[
+                Piece::Fixed(b"["),
+                FIRST,
+                Piece::Fixed(b"?"),
+                SECOND,
+                Piece::Fixed(b":"),
+                THIRD,
+                Piece::Fixed(b"]"),
+            ],
+            LET => &[
+                Piece::Fixed(b"{"),
+                FIRST,
+                Piece::Fixed(b";"),
+                SECOND,
+                Piece::Fixed(b"}"),
+            ],
             _ => &[],
         }
     }

@@ -17,5 +17,4 @@ pub fn formula_is_what_its_specs_say()
     ensures reads { λ _. ⌜ figure .reads ≡ read ⌝ }
     ensures figures { λ _. ⌜ Figures (figure .means) (figure .reads) (figure .nothing) ⌝ }
     ensures nothing { λ _. ⌜ figure .nothing ≡ blank ⌝ }
-{
-}
+{}

@@ -3,7 +3,9 @@ ghost use mathlib.Core.Path.{_≡_};
 ghost use lib.Dec.{T};
 ghost use Rattle.formula.specs.Readings.{lawful, number-or-trouble};
 ghost use Rattle.formula.specs.declared.reading.Reading.the-variants.{Troubled};
+
 pub mod row;
+
 use crate::reading::Reading;
 use crate::reading::Trouble;
 use crate::reading::in_range;

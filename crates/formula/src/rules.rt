@@ -64,12 +64,6 @@ pub fn choose(a: Quantity, b: Quantity, c: Quantity) -> Quantity
 {
     match a.reading() {
         Reading::Troubled(trouble) => Quantity::trouble(trouble),
-        Reading::Number(n) => {
-            if n <= 0 {
-                c
-            } else {
-                b
-            }
-        }
+        Reading::Number(n) => { if n <= 0 { c } else { b } }
     }
 }

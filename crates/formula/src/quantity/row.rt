@@ -19,6 +19,7 @@ pub enum QuantityRow {
 
 pub impl Figure for Quantity as QuantityFigure {
     type Meaning = Reading;
+
     type Row = QuantityRow;
 
     ghost means = { reading-of };
@@ -38,7 +39,11 @@ pub impl Figure for Quantity as QuantityFigure {
     fn load(row: QuantityRow) -> Quantity {
         match row {
             QuantityRow::Number(number) => {
-                if in_range(number as i64) { Quantity::number(number) } else { Quantity::blank() }
+                if in_range(number as i64) {
+                    Quantity::number(number)
+                } else {
+                    Quantity::blank()
+                }
             }
             QuantityRow::Trouble(number) => match Trouble::from_number(number) {
                 Some(trouble) => Quantity::trouble(trouble),
