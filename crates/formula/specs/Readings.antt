@@ -1,6 +1,6 @@
 -- What a figure says: a number within the range, or one of five troubles.
 use mathlib.Core.List.{List, [], _∷_}
-use mathlib.Core.Bool.{Bool, true, false, _&&_}
+use mathlib.Core.Bool.{Bool, true, false, _&&_, cond}
 use Prim.Native.Nat.{ℕ}
 use lib.IntN.{ℤ, pos, negsuc}
 use lib.ListN.{getD}
@@ -32,3 +32,11 @@ trouble-number NothingBound = 4
 -- the trouble that goes by a number, if any does
 abbrev pub numbered-trouble : ℕ → Option Trouble
 numbered-trouble k = getD (Some Blank ∷ Some Hole ∷ Some OutOfRange ∷ Some ZeroDivisor ∷ Some NothingBound ∷ []) k None
+
+-- the reading of a number: itself, or trouble where it lies outside the range
+abbrev pub number-or-trouble : ℤ → Reading
+number-or-trouble n = cond (in-range n) (Number n) (Troubled OutOfRange)
+
+-- what stands where there is nothing
+abbrev pub blank : Reading
+blank = Troubled Blank

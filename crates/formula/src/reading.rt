@@ -19,10 +19,10 @@ pub enum Reading {
 }
 
 // The largest number; the smallest is its opposite.
-pub const LARGEST: i32 = 1_000_000_000;
+pub const LARGEST: i64 = 1_000_000_000;
 
 // Whether a number lies in the range of figures and literals.
-pub fn in_range(number: i32) -> bool
+pub fn in_range(number: i64) -> bool
     ensures { λ r. ⌜ r ≡ in-range number ⌝ }
 {
     -LARGEST <= number && number <= LARGEST

@@ -249,16 +249,16 @@ module _ (g : Grammar) (text : ℕ → List Segment) (few : (s : ℕ) → s < g 
         literals = lawful;
         few-segments = leb→le _ 8 (test 6);
         short-bytes = λ k h. short-is _ (passed-at short (text p) (test 7) k literal h);
-        each-child-once = same-numbers→eq _ _ (test 8)
+        each-child-once = same-numbers→eq _ _ (test 8);
       }
 
 -- A table that passes the tests, with what is said of its literals, keeps the limits.
 pub limits-by-test :
-  (g : Grammar) (text : ℕ → List Segment)
-  → T (keeps g text)
-  → ((p : ℕ) → p < g .symbols → T (g .accepts p (pos 0)) × ((l : ℤ) → T (g .accepts p l) → l ≡ pos 0))
-  → ((p : ℕ) → p < g .productions → (l : ℤ) → T (g .accepts p l) → Lawful l)
-  → Limits g text
+    (g : Grammar) (text : ℕ → List Segment)
+    → T (keeps g text)
+    → ((p : ℕ) → p < g .symbols → T (g .accepts p (pos 0)) × ((l : ℤ) → T (g .accepts p l) → l ≡ pos 0))
+    → ((p : ℕ) → p < g .productions → (l : ℤ) → T (g .accepts p l) → Lawful l)
+    → Limits g text
 limits-by-test g text t zero-alone lawful =
     record {
       some-symbol = leb→le 1 _ (test 0);
@@ -269,7 +269,7 @@ limits-by-test g text t zero-alone lawful =
       start = (ltb→lt 0 _ (test 5), eqb→eq _ 0 (test 6));
       hole = holes;
       zero-alone = zero-alone;
-      each = λ p h. production-limits g text few p (passed-below (production-keeps g text) (g .productions) (test 8) p h) (lawful p h)
+      each = λ p h. production-limits g text few p (passed-below (production-keeps g text) (g .productions) (test 8) p h) (lawful p h);
     }
   where
     test : (k : ℕ) → T (getD (table-tests g text) k true)
