@@ -16,3 +16,4 @@ pub mod Gathering
 pub mod Saturation
 pub mod Rounds
 pub mod Verdicts
+pub mod Single

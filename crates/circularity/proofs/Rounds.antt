@@ -12,7 +12,7 @@ use Rattle.grammar.specs.Limits.{Limits}
 use Rattle.grammar.specs.Circularity.{Circular, Culprit, RelationCount}
 use Rattle.circularity.specs.Working.{grown, rounds, found-by, Saturated, counted}
 use Rattle.circularity.proofs.Saturation.{Sound, Closed, sound-rows, grown-rows, grown-more, grown-sound, empty-sound, settled, sum-bound}
-use Rattle.circularity.proofs.Verdicts.{not-circular, relation-count, culprit}
+use Rattle.circularity.proofs.Verdicts.{not-circular, relation-count, culprit, culprit-found}
 
 module _ (g : Grammar) (text : ℕ → List Segment) (lim : Limits g text) where
   pub rounds-sound : (n : ℕ) → Sound g (rounds g n)
@@ -49,3 +49,7 @@ module _ (g : Grammar) (text : ℕ → List Segment) (lim : Limits g text) where
 
   pub saturated-culprit : (masks : List ℕ) → Saturated g masks → (p : ℕ) → p < g .productions → T (found-by g p masks .cyclic) → Culprit g p
   saturated-culprit masks s p exists t = culprit g text lim masks (saturated-sound masks s) p exists t
+
+  -- whatever production may be named shows a cycle in saturated sets
+  pub saturated-named : (masks : List ℕ) → Saturated g masks → (p : ℕ) → Culprit g p → (p < g .productions) × T (found-by g p masks .cyclic)
+  saturated-named masks s p c = culprit-found g text lim masks (saturated-sound masks s) (saturated-closed masks s) p c

@@ -12,7 +12,7 @@ use Rattle.std.proofs.shelf.Lists.{getD-map, length-map}
 use Rattle.grammar.specs.Text.{Segment}
 use Rattle.grammar.specs.Grammar.{Grammar}
 use Rattle.grammar.specs.Limits.{Limits}
-use Rattle.grammar.specs.Tree.{Tree, none, node, TreeOf}
+use Rattle.grammar.specs.Tree.{RootedBy, Tree, none, node, TreeOf}
 use Rattle.grammar.specs.Dependence.{Instance, WaitsAtRoot, Waits}
 use Rattle.grammar.specs.Circularity.{Circular, Culprit, Relations, RelationCount, sum-below}
 use Rattle.circularity.specs.Bits.{has}
@@ -87,19 +87,22 @@ module _ (g : Grammar) (text : ℕ → List Segment) (lim : Limits g text) (mask
     -- ---- circular or not
 
     -- a tree with a cycle through one of its root's own rules shows the cycle in what the root's production finds
-    own-cycle-found : (s : ℕ) (t : Tree) → TreeOf g s t → (x y : Instance) → WaitsAtRoot g t x y → Star (Waits g t) y x
-        → (p : ℕ) × (p < g .productions) × T (found-by g p masks .cyclic)
-    own-cycle-found s none h x y w back = absurd w
-    own-cycle-found s (node n p l a b d) h x y w back =
-        let q = coded g text lim masks closed s n p l a b d h in
-        (p, h .0, has-found (λ o. T (o .cyclic)) cycle-seen g p masks (q .chosen-ones) (q .fits)
-         (own-cycle-is-cyclic g text lim p (h .0) (q .chosen-ones) s n l a b d h (q .codes) x y w back))
+    own-cycle-found : (p s : ℕ) (t : Tree) → TreeOf g s t → RootedBy t p → (x y : Instance) → WaitsAtRoot g t x y → Star (Waits g t) y x
+        → (p < g .productions) × T (found-by g p masks .cyclic)
+    own-cycle-found p s none h rooted x y w back = absurd w
+    own-cycle-found p s (node n q l a b d) h rooted x y w back =
+        let known = coded g text lim masks closed s n q l a b d h in
+        subst (λ r. (r < g .productions) × T (found-by g r masks .cyclic)) rooted
+        (h .0, has-found (λ o. T (o .cyclic)) cycle-seen g q masks (known .chosen-ones) (known .fits)
+         (own-cycle-is-cyclic g text lim q (h .0) (known .chosen-ones) s n l a b d h (known .codes) x y w back))
+
+    pub culprit-found : (p : ℕ) → Culprit g p → (p < g .productions) × T (found-by g p masks .cyclic)
+    culprit-found p c = own-cycle-found p (c .symbol) (c .tree) (c .is-tree) (c .rooted) (c .from) (c .to) (c .own-rule) (c .back)
 
     pub not-circular : ((p : ℕ) → p < g .productions → T (found-by g p masks .cyclic) → ⊥) → Circular g → ⊥
     not-circular no-cycle circular =
-        let (q, exists, c) = circular-has-culprit g text lim circular in
-        let (p, there, t) = own-cycle-found (c .symbol) (c .tree) (c .is-tree) (c .from) (c .to) (c .own-rule) (c .back) in
-        no-cycle p there t
+        let (p, exists, c) = circular-has-culprit g text lim circular in
+        no-cycle p exists (culprit-found p c .1)
 
   pub culprit : (p : ℕ) → p < g .productions → T (found-by g p masks .cyclic) → Culprit g p
   culprit p exists t =
