@@ -6,8 +6,8 @@ use lib.Count.{ones}
 use lib.Dec.{lit<}
 use lib.ListN.{replicate}
 use Rattle.circularity.specs.Working.{Saturated}
-use Rattle.formula.specs.Table.{table, text-of}
-use Rattle.formula.specs.Keeping.{table-keeps}
+use Rattle.formula.specs.Table.{formula-grammar, formula-text}
+use Rattle.formula.specs.Keeping.{formula-limits}
 use Rattle.plan.specs.Table.{plan-grammar, plan-text, altered-grammar}
 use Rattle.plan.specs.TableLimits.{plan-limits, altered-limits}
 use Rattle.examples.specs.Table.{PassesWith, RefusedNaming}
@@ -17,12 +17,12 @@ use Rattle.examples.proofs.Runs.{passes-with, refused-naming}
 abbrev sets : ℕ → ℕ → ℕ → List ℕ
 sets a b c = a ∷ b ∷ c ∷ replicate 13 0
 
-formula-sets : Saturated table (sets 1 3 0)
+formula-sets : Saturated formula-grammar (sets 1 3 0)
 formula-sets = record { turns = 2; made = refl; still = refl }
 
-pub formula-passes : PassesWith table 3
+pub formula-passes : PassesWith formula-grammar 3
 unfolding ones
-formula-passes = passes-with table text-of table-keeps (sets 1 3 0) formula-sets tt 3 refl
+formula-passes = passes-with formula-grammar formula-text formula-limits (sets 1 3 0) formula-sets tt 3 refl
 
 plan-sets : Saturated plan-grammar (sets 1 514 13)
 plan-sets = record { turns = 2; made = refl; still = refl }

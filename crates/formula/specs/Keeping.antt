@@ -9,7 +9,7 @@ use lib.Signed.{leZ}
 use Rattle.grammar.specs.Limits.{Lawful, Limits}
 use Rattle.grammar.specs.LimitsByTest.{limits-by-test}
 use Rattle.formula.specs.Readings.{in-range}
-use Rattle.formula.specs.Table.{table, text-of, accepted}
+use Rattle.formula.specs.Table.{formula-grammar, formula-text, accepted}
 
 zero-is : (l : ℤ) → T (eqb (natAbs l) 0) → l ≡ pos 0
 zero-is (pos n) t = ap pos (eqb→eq n 0 t)
@@ -35,5 +35,5 @@ zero-alone zero h = (tt, zero-is)
 zero-alone (suc zero) h = (tt, zero-is)
 zero-alone (suc (suc p)) h = absurd (omega arith)
 
-pub table-keeps : Limits table text-of
-table-keeps = limits-by-test table text-of tt zero-alone (λ p h l t. accepted-lawful p l t)
+pub formula-limits : Limits formula-grammar formula-text
+formula-limits = limits-by-test formula-grammar formula-text tt zero-alone (λ p h l t. accepted-lawful p l t)

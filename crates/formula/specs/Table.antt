@@ -104,8 +104,8 @@ rule-of l = record { target = l .target; arguments = l .arguments }
 abbrev pub accepted : ℕ → ℤ → Bool
 accepted p l = elim (eqb p 2) [ true ↦ in-range l | false ↦ eqb (natAbs l) 0 ]
 
-abbrev pub table : Grammar
-table =
+abbrev pub formula-grammar : Grammar
+formula-grammar =
     record {
       symbols = 2;
       productions = length the-productions;
@@ -125,9 +125,9 @@ operation-in (l ∷ ls) i a = elim (is-at (l .target) i a) [ true ↦ l .operati
 abbrev pub operation-of : ℕ → ℕ → ℕ → Operation
 operation-of p i a = operation-in (production p .lines) i a
 
-abbrev pub text-of : ℕ → List Segment
-text-of p = production p .text
+abbrev pub formula-text : ℕ → List Segment
+formula-text p = production p .text
 
 -- the function of the rule for attribute a at place i of production p, of the literal and the arguments
-abbrev pub rule-of-target : ℕ → ℕ → ℕ → ℤ → List Reading → Reading
-rule-of-target p i a = gives (operation-of p i a)
+abbrev pub formula-rule : ℕ → ℕ → ℕ → ℤ → List Reading → Reading
+formula-rule p i a = gives (operation-of p i a)

@@ -1,7 +1,7 @@
 // The language of price formulas: the table, the operation of each rule, and the text of each production.
 ghost use mathlib.Core.Path.{_≡_};
-ghost use Rattle.formula.specs.Table.{table, operation-of, text-of, rule-of-target};
-ghost use Rattle.formula.specs.Keeping.{table-keeps};
+ghost use Rattle.formula.specs.Table.{formula-grammar, operation-of, formula-text, formula-rule};
+ghost use Rattle.formula.specs.Keeping.{formula-limits};
 use crate::operation::Operation;
 use crate::quantity::Quantity;
 use crate::quantity::row::QuantityFigure;
@@ -100,13 +100,13 @@ pub impl Language for Formula as FormulaLanguage {
 
     type Value = Quantity;
 
-    ghost grammar = { λ _. table };
+    ghost grammar = { λ _. formula-grammar };
 
-    ghost rule = { λ _. rule-of-target };
+    ghost rule = { λ _. formula-rule };
 
-    ghost text = { λ _. text-of };
+    ghost text = { λ _. formula-text };
 
-    ghost limits = { λ _. table-keeps };
+    ghost limits = { λ _. formula-limits };
 
     fn symbols(&self) -> u8 {
         2

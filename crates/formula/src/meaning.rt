@@ -6,13 +6,13 @@ ghost use Rattle.formula.specs.declared.language.Formula.{Formula};
 ghost use Rattle.formula.specs.Meaning.{Figures};
 ghost use Rattle.formula.specs.Rows.{reading-of, read};
 ghost use Rattle.formula.specs.Readings.{blank};
-ghost use Rattle.formula.specs.Table.{table, rule-of-target, text-of};
+ghost use Rattle.formula.specs.Table.{formula-grammar, formula-rule, formula-text};
 
 // The table, the rules and the text are those of specs/Table, and a figure's meaning is what it says.
 pub fn formula_is_what_its_specs_say()
-    ensures grammar { λ _. ⌜ ((f : Formula) → language .grammar f ≡ table) ⌝ }
-    ensures rule { λ _. ⌜ ((f : Formula) → language .rule f ≡ rule-of-target) ⌝ }
-    ensures text { λ _. ⌜ ((f : Formula) → language .text f ≡ text-of) ⌝ }
+    ensures grammar { λ _. ⌜ ((f : Formula) → language .grammar f ≡ formula-grammar) ⌝ }
+    ensures rule { λ _. ⌜ ((f : Formula) → language .rule f ≡ formula-rule) ⌝ }
+    ensures text { λ _. ⌜ ((f : Formula) → language .text f ≡ formula-text) ⌝ }
     ensures means { λ _. ⌜ figure .means ≡ reading-of ⌝ }
     ensures reads { λ _. ⌜ figure .reads ≡ read ⌝ }
     ensures figures { λ _. ⌜ Figures (figure .means) (figure .reads) (figure .nothing) ⌝ }
