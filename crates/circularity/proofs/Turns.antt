@@ -4,7 +4,7 @@ use mathlib.Core.Bool.{Bool, true, false}
 use mathlib.Core.List.{List, [], _∷_, map}
 use mathlib.Core.Logic.{_≢_, inl, inr, ⊎-elim}
 use Prim.Native.Nat.{ℕ, zero, suc, _+_, _≤_, _<_}
-use lib.Bits.{bitOr}
+use lib.Bits.{bitOr, or-zero-r}
 use lib.ListN.{length, getD, set}
 use native.Mathlib.Omega.{arith}
 use Rattle.std.proofs.shelf.Lists.{getD-map, getD-set-same, getD-set-other, length-map, ext-getD}
@@ -21,6 +21,15 @@ module _ (m : ℕ) (start : List ℕ) where
 
   pub through-at : (i : ℕ) → i < length start → getD (through m start) i 0 ≡ taken start m (getD start i 0)
   through-at i inside = getD-map (taken start m) start i 0 0 inside
+
+  -- a vertex without edges has nothing to hand on
+  pub through-nothing : getD start m 0 ≡ 0 → start ≡ through m start
+  through-nothing none =
+      ext-getD 0 start (through m start) (sym through-length) (λ i h. sym (through-at i h ∙ unchanged (getD start i 0) (has (getD start i 0) m)))
+    where
+      unchanged : (row : ℕ) (b : Bool) → elim b [ true ↦ bitOr row (getD start m 0) | false ↦ row ] ≡ row
+      unchanged row true = ap (bitOr row) none ∙ or-zero-r row
+      unchanged row false = refl
 
 pub closed-length : (m : ℕ) (start : List ℕ) → length (closed-below m start) ≡ length start
 closed-length zero start = refl

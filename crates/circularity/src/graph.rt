@@ -138,6 +138,9 @@ fn go_through(rows: &mut [u16], m: usize)
     ensures { λ _. ⌜ now (rows .exit) ≡ taken-through m (now (rows .entry)) ⌝ }
 {
     let edges = rows[m];
+    if edges == 0 {
+        return;
+    }
     for row in rows.iter_mut() {
         *row = extended(*row, m, edges);
     }

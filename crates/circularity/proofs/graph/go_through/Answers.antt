@@ -3,7 +3,7 @@ use lib.ListN.{getD}
 use native.Mathlib.Omega.{arith}
 use Rattle.std.proofs.shelf.Lists.{getD-set-same, getD-set-other}
 use Rattle.circularity.specs.Bits.{through}
-use Rattle.circularity.proofs.Turns.{taken, through-length, through-at, turned-more, turned-all}
+use Rattle.circularity.proofs.Turns.{taken, through-length, through-at, through-nothing, turned-more, turned-all}
 use Rattle.circularity.proofs.graph.go_through.Needs as need
 
 pub loop-row-again : need.loop-row-again
@@ -22,3 +22,6 @@ returns c =
     let start = c .args .rows .now in
     turned-all start (through (c .args .m) start) (c .loop-row .rows) (c .loop-row .row-index) (c .loop-row .inv)
     (c .loop-row .kept .rows ∙ sym (through-length (c .args .m) start)) (rw (through-length (c .args .m) start) (c .loop-row-test .left))
+
+pub returns-then-edges-eq0 : need.returns-then-edges-eq0
+returns-then-edges-eq0 c = through-nothing (c .args .m) (c .args .rows .now) (c .if-edges-eq0 .taken)
