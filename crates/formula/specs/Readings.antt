@@ -2,6 +2,7 @@
 use mathlib.Core.List.{List, [], _∷_}
 use mathlib.Core.Bool.{Bool, true, false, _&&_, cond}
 use Prim.Native.Nat.{ℕ}
+use lib.Dec.{leb}
 use lib.IntN.{ℤ, pos, negsuc}
 use lib.ListN.{getD}
 use lib.Signed.{leZ}
@@ -16,11 +17,6 @@ use Rattle.formula.specs.declared.reading.Trouble.the-variants.{Blank, Hole, O
 abbrev pub in-range : ℤ → Bool
 in-range n = leZ (negsuc 999999999) n && leZ n (pos 1000000000)
 
--- a trouble is always lawful, a number where it lies in the range
-abbrev pub lawful : Reading → Bool
-lawful (Number n) = in-range n
-lawful (Troubled t) = true
-
 -- the number that a trouble goes by
 abbrev pub trouble-number : Trouble → ℕ
 trouble-number Blank = 0
@@ -28,6 +24,11 @@ trouble-number Hole = 1
 trouble-number OutOfRange = 2
 trouble-number ZeroDivisor = 3
 trouble-number NothingBound = 4
+
+-- a reading is lawful where its number lies in the range, or its trouble goes by a number up to 4
+abbrev pub lawful : Reading → Bool
+lawful (Number n) = in-range n
+lawful (Troubled t) = leb (trouble-number t) 4
 
 -- the trouble that goes by a number, if any does
 abbrev pub numbered-trouble : ℕ → Option Trouble
