@@ -116,11 +116,11 @@ has-shl-low x i j h =
 
 shl-has : (x i j : ℕ) → T (has (x * 2 ^ i) j) → (b : ℕ) × (j ≡ i + b) × T (has x b)
 shl-has x i j t =
-    elim (cases-lt j i)
-    [ inl l ↦ absurd (T-false (has (x * 2 ^ i) j) (has-shl-low x i j l) t)
-    | inr le ↦
-      (let e : j ≡ i + (j - i) = omega arith in
-      (j - i, e, T-along (has (x * 2 ^ i) j) (has x (j - i)) (ap (has (x * 2 ^ i)) e ∙ has-shl x i (j - i)) t))
+    elim (cases-lt j i) [
+      | inl l ↦ absurd (T-false (has (x * 2 ^ i) j) (has-shl-low x i j l) t)
+      | inr le ↦
+          (let e : j ≡ i + (j - i) = omega arith in
+          (j - i, e, T-along (has (x * 2 ^ i) j) (has x (j - i)) (ap (has (x * 2 ^ i)) e ∙ has-shl x i (j - i)) t))
     ]
 
 -- the same in 16 bits, where nothing is shifted out
@@ -152,18 +152,18 @@ has-power-only k j t =
 
 pub has-power : (k j : ℕ) → has (2 ^ k) j ≡ eqb k j
 has-power k j =
-    elim (cases-eq k j)
-    [ inl e ↦ subst (λ (x : ℕ). has (2 ^ k) x ≡ true) e (true-T (has (2 ^ k) k) (power-has k)) ∙ sym (eq-eqb k j e)
-    | inr n ↦ false-T (has (2 ^ k) j) (λ t. n (has-power-only k j t)) ∙ sym (ne-eqb k j n)
+    elim (cases-eq k j) [
+      | inl e ↦ subst (λ (x : ℕ). has (2 ^ k) x ≡ true) e (true-T (has (2 ^ k) k) (power-has k)) ∙ sym (eq-eqb k j e)
+      | inr n ↦ false-T (has (2 ^ k) j) (λ t. n (has-power-only k j t)) ∙ sym (ne-eqb k j n)
     ]
 
 -- ---- a number with one more bit
 
 pub has-with-bit : (r k j : ℕ) → k < 16 → T (has (with-bit r k) j) → T (has r j) ⊎ (k ≡ j)
 has-with-bit r k j h t =
-    elim (or-has r ((1 * 2 ^ k) % 2 ^ 16) j t)
-    [ inl u ↦ inl u
-    | inr u ↦ inr (has-power-only k j (subst (λ (x : ℕ). T (has x j)) (one-shl k 16 h) u))
+    elim (or-has r ((1 * 2 ^ k) % 2 ^ 16) j t) [
+      | inl u ↦ inl u
+      | inr u ↦ inr (has-power-only k j (subst (λ (x : ℕ). T (has x j)) (one-shl k 16 h) u))
     ]
 
 pub with-bit-keeps : (r k j : ℕ) → T (has r j) → T (has (with-bit r k) j)
@@ -210,9 +210,9 @@ same-digits zero x y hx hy same = omega arith
 same-digits (suc h) x y hx hy same =
     let p = pow-suc 2 h in
     let halves : x / 2 ≡ y / 2 =
-          same-digits h (x / 2) (y / 2) (omega (arith, p)) (omega (arith, p)) (λ b l. has-half x b ∙ same (suc b) (omega arith) ∙ sym (has-half y b)) in
+    same-digits h (x / 2) (y / 2) (omega (arith, p)) (omega (arith, p)) (λ b l. has-half x b ∙ same (suc b) (omega arith) ∙ sym (has-half y b)) in
     let lowest : x % 2 ≡ y % 2 =
-          digit-same (x % 2) (y % 2) (omega arith) (omega arith) (sym (has-lowest x) ∙ same 0 (omega arith) ∙ has-lowest y) in
+    digit-same (x % 2) (y % 2) (omega arith) (omega arith) (sym (has-lowest x) ∙ same 0 (omega arith) ∙ has-lowest y) in
     omega arith
 
 pub bits-same : (h x y : ℕ) → x < 2 ^ h → y < 2 ^ h → ((b : ℕ) → b < h → (T (has x b) → T (has y b)) × (T (has y b) → T (has x b))) → x ≡ y

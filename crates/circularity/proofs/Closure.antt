@@ -25,11 +25,11 @@ Edge rows v w = T (has (getD rows v 0) w)
 -- an edge begins and ends at a vertex
 pub edge-from : (rows : List ℕ) → Rows rows → (v w : ℕ) → Edge rows v w → v < 16
 edge-from rows r v w e =
-    elim (cases-lt v 16)
-    [ inl l ↦ l
-    | inr le ↦
-      absurd (T-false (has 0 w) (has-zero w)
-      (subst (λ (x : ℕ). T (has x w)) (getD-past rows v 0 (omega (arith, r .count))) e))
+    elim (cases-lt v 16) [
+      | inl l ↦ l
+      | inr le ↦
+          absurd (T-false (has 0 w) (has-zero w)
+          (subst (λ (x : ℕ). T (has x w)) (getD-past rows v 0 (omega (arith, r .count))) e))
     ]
 
 pub edge-to : (rows : List ℕ) → Rows rows → (v w : ℕ) → Edge rows v w → w < 16
@@ -65,10 +65,10 @@ through-rows : (m : ℕ) (rows : List ℕ) → Rows rows → Rows (through m row
 through-rows m rows r = record {
   count = length-map rows (turned m (getD rows m 0)) ∙ r .count;
   below = λ v.
-    elim (cases-lt v (length rows))
-    [ inl l ↦ subst (λ (x : ℕ). x < 2 ^ 16) (sym (through-row m rows v l)) (turned-below m (getD rows m 0) (getD rows v 0) (r .below m) (r .below v))
-    | inr le ↦ subst (λ (x : ℕ). x < 2 ^ 16) (sym (getD-past (through m rows) v 0 (simp length-map le))) (omega arith)
-    ];
+      elim (cases-lt v (length rows)) [
+        | inl l ↦ subst (λ (x : ℕ). x < 2 ^ 16) (sym (through-row m rows v l)) (turned-below m (getD rows m 0) (getD rows v 0) (r .below m) (r .below v))
+        | inr le ↦ subst (λ (x : ℕ). x < 2 ^ 16) (sym (getD-past (through m rows) v 0 (simp length-map le))) (omega arith)
+      ];
 }
 
 module _ (m : ℕ) (rows : List ℕ) (r : Rows rows) where
@@ -98,17 +98,17 @@ module _ (m : ℕ) (rows : List ℕ) (r : Rows rows) where
   through-stays : (k : ℕ) → ((v w : ℕ) → Edge rows v k → Edge rows k w → Edge rows v w)
       → (v w : ℕ) → Edge (through m rows) v k → Edge (through m rows) k w → Edge (through m rows) v w
   through-stays k closed v w e f =
-      elim (through-sound v k e)
-      [ inl a ↦
-        elim (through-sound k w f)
-        [ inl b ↦ through-keeps v w (closed v w a b)
-        | inr b ↦ through-takes v w (closed v m a (b .0)) (b .1)
-        ]
-      | inr a ↦
-        elim (through-sound k w f)
-        [ inl b ↦ through-takes v w (a .0) (closed m w (a .1) b)
-        | inr b ↦ through-takes v w (a .0) (b .1)
-        ]
+      elim (through-sound v k e) [
+        | inl a ↦
+            elim (through-sound k w f) [
+              | inl b ↦ through-keeps v w (closed v w a b)
+              | inr b ↦ through-takes v w (closed v m a (b .0)) (b .1)
+            ]
+        | inr a ↦
+            elim (through-sound k w f) [
+              | inl b ↦ through-takes v w (a .0) (closed m w (a .1) b)
+              | inr b ↦ through-takes v w (a .0) (b .1)
+            ]
       ]
 
 -- ---- all turns
@@ -124,9 +124,9 @@ over-join p (then q s) = then (over-join p q) s
 sound-below : (m : ℕ) (rows : List ℕ) → Rows rows → (v w : ℕ) → Edge (closed-below m rows) v w → Over (Edge rows) v w
 sound-below zero rows r v w e = one e
 sound-below (suc m) rows r v w e =
-    elim (through-sound m (closed-below m rows) (closed-rows m rows r) v w e)
-    [ inl a ↦ sound-below m rows r v w a
-    | inr a ↦ over-join (sound-below m rows r v m (a .0)) (sound-below m rows r m w (a .1))
+    elim (through-sound m (closed-below m rows) (closed-rows m rows r) v w e) [
+      | inl a ↦ sound-below m rows r v w a
+      | inr a ↦ over-join (sound-below m rows r v m (a .0)) (sound-below m rows r m w (a .1))
     ]
 
 keeps-below : (m : ℕ) (rows : List ℕ) → Rows rows → (v w : ℕ) → Edge rows v w → Edge (closed-below m rows) v w
@@ -137,12 +137,12 @@ closed-through : (m : ℕ) (rows : List ℕ) → Rows rows → (k : ℕ) → k <
     → (v w : ℕ) → Edge (closed-below m rows) v k → Edge (closed-below m rows) k w → Edge (closed-below m rows) v w
 closed-through zero rows r k l = absurd (omega arith)
 closed-through (suc m) rows r k l =
-    elim (cases-lt k m)
-    [ inl h ↦ through-stays m (closed-below m rows) (closed-rows m rows r) k (closed-through m rows r k h)
-    | inr h ↦
-      (let e : m ≡ k = omega arith in
-      subst (λ (x : ℕ). (v w : ℕ) → Edge (closed-below (suc m) rows) v x → Edge (closed-below (suc m) rows) x w → Edge (closed-below (suc m) rows) v w) e
-      (through-closes m (closed-below m rows) (closed-rows m rows r)))
+    elim (cases-lt k m) [
+      | inl h ↦ through-stays m (closed-below m rows) (closed-rows m rows r) k (closed-through m rows r k h)
+      | inr h ↦
+          (let e : m ≡ k = omega arith in
+          subst (λ (x : ℕ). (v w : ℕ) → Edge (closed-below (suc m) rows) v x → Edge (closed-below (suc m) rows) x w → Edge (closed-below (suc m) rows) v w) e
+          (through-closes m (closed-below m rows) (closed-rows m rows r)))
     ]
 
 pub closure-sound : (rows : List ℕ) → Rows rows → (v w : ℕ) → Edge (closed-below 16 rows) v w → Over (Edge rows) v w

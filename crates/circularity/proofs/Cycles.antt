@@ -51,18 +51,22 @@ SomeCulprit g = (p : ℕ) × (p < g .productions) × Culprit g p
 
 -- the cycle starts at the root's own rule, or it lies inside a child's tree
 pub culprit-by-split : (g : Grammar) (text : ℕ → List Segment) → Limits g text → (s n p : ℕ) (l : ℤ) (a b c : Tree) → TreeOf g s (node n p l a b c)
-  → ((k : ℕ) (y : Instance) → Over (Waits g (hanging (node n p l a b c) k)) y y → SomeCulprit g) → (x : Instance) → Split g (node n p l a b c) x x → SomeCulprit g
-culprit-by-split g text lim s n p l a b c h deeper x (by-own u v w before after) =
-    (p, h .0, record {
-        symbol = g .symbol p;
-        tree = node n p l a b c;
-        symbol-exists = lim .each p (h .0) .symbol-exists;
-        is-tree = (h .0, refl, h .2, h .3, h .4);
-        rooted = refl;
-        from = u;
-        to = v;
-        own-rule = w;
-        back = star-trans after before })
+    → ((k : ℕ) (y : Instance) → Over (Waits g (hanging (node n p l a b c) k)) y y → SomeCulprit g) → (x : Instance) → Split g (node n p l a b c) x x → SomeCulprit g
+culprit-by-split g text lim s n p l a b c h deeper x (by-own u v w before after) = (
+  p,
+  h .0,
+  record {
+    symbol = g .symbol p;
+    tree = node n p l a b c;
+    symbol-exists = lim .each p (h .0) .symbol-exists;
+    is-tree = (h .0, refl, h .2, h .3, h .4);
+    rooted = refl;
+    from = u;
+    to = v;
+    own-rule = w;
+    back = star-trans after before;
+  },
+)
 culprit-by-split g text lim s n p l a b c h deeper x (all-inside k x′ y′ e e′ inner) =
     deeper k x′ (subst (λ y. Over (Waits g (hanging (node n p l a b c) k)) x′ y) (same-below y′ x′ k k (sym e′ ∙ e)) inner)
 
@@ -73,8 +77,8 @@ none-cycles g (then o w) = none-waits g none refl w
 
 -- what holds for the three trees that hang at a node holds for that at any child place
 pub at-each-place : (g : Grammar) (n p : ℕ) (l : ℤ) (a b c : Tree) (C : Type 0)
-  → ((y : Instance) → Over (Waits g a) y y → C) → ((y : Instance) → Over (Waits g b) y y → C) → ((y : Instance) → Over (Waits g c) y y → C)
-  → (k : ℕ) (y : Instance) → Over (Waits g (hanging (node n p l a b c) k)) y y → C
+    → ((y : Instance) → Over (Waits g a) y y → C) → ((y : Instance) → Over (Waits g b) y y → C) → ((y : Instance) → Over (Waits g c) y y → C)
+    → (k : ℕ) (y : Instance) → Over (Waits g (hanging (node n p l a b c) k)) y y → C
 at-each-place g n p l a b c C in-first in-second in-third zero y o = in-first y o
 at-each-place g n p l a b c C in-first in-second in-third (suc zero) y o = in-second y o
 at-each-place g n p l a b c C in-first in-second in-third (suc (suc zero)) y o = in-third y o
@@ -85,11 +89,11 @@ pub cycle-at-some-node : (g : Grammar) (text : ℕ → List Segment) → Limits 
 cycle-at-some-node g text lim s none h x o = absurd (none-cycles g o)
 cycle-at-some-node g text lim s (node n p l a b c) h x o =
     culprit-by-split g text lim s n p l a b c h
-      (at-each-place g n p l a b c (SomeCulprit g)
-        (λ y r. cycle-at-some-node g text lim (child g p 0) a (h .2) y r)
-        (λ y r. cycle-at-some-node g text lim (child g p 1) b (h .3) y r)
-        (λ y r. cycle-at-some-node g text lim (child g p 2) c (h .4) y r))
-      x (split g (node n p l a b c) x o)
+    (at-each-place g n p l a b c (SomeCulprit g)
+    (λ y r. cycle-at-some-node g text lim (child g p 0) a (h .2) y r)
+    (λ y r. cycle-at-some-node g text lim (child g p 1) b (h .3) y r)
+    (λ y r. cycle-at-some-node g text lim (child g p 2) c (h .4) y r))
+    x (split g (node n p l a b c) x o)
 
 pub circular-has-culprit : (g : Grammar) (text : ℕ → List Segment) → Limits g text → Circular g → SomeCulprit g
 circular-has-culprit g text lim c = cycle-at-some-node g text lim (c .0) (c .1) (c .4) (c .2) (c .5)

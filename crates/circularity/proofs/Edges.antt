@@ -73,13 +73,13 @@ Named os w = (o : Occurrence) × Among o os × (vertex (o .place) (o .attribute)
 added-sound : (os : List Occurrence) (start w : ℕ) → T (has (folded adding start os) w) → T (has start w) ⊎ Named os w
 added-sound [] start w t = inl t
 added-sound (o ∷ os) start w t =
-    elim (added-sound os (adding start o) w t)
-    [ inl u ↦
-      elim (has-with-bit start (vertex (o .place) (o .attribute)) w (vertex-below (o .place) (o .attribute)) u)
-      [ inl before ↦ inl before
-      | inr e ↦ inr (o, inl refl, e)
-      ]
-    | inr n ↦ inr (n .0, inr (n .1), n .2)
+    elim (added-sound os (adding start o) w t) [
+      | inl u ↦
+          elim (has-with-bit start (vertex (o .place) (o .attribute)) w (vertex-below (o .place) (o .attribute)) u) [
+            | inl before ↦ inl before
+            | inr e ↦ inr (o, inl refl, e)
+          ]
+      | inr n ↦ inr (n .0, inr (n .1), n .2)
     ]
 
 added-keeps : (os : List Occurrence) (start w : ℕ) → T (has start w) → T (has (folded adding start os) w)
@@ -161,20 +161,20 @@ row-below g p c (suc k) a =
     let zero-below : Below 0 = lit< tt in
     cond-both (ltb k (length (g .children p))) (cond (ltb a h) own (cond (ltb (a - h) s) related 0)) 0 Below
     (λ e.
-      cond-both (ltb a h) own (cond (ltb (a - h) s) related 0) Below (λ e′. bits-below (arguments g p (k + 1) a)) (λ e′.
-      cond-both (ltb (a - h) s) related 0 Below (λ e″. shifted-below (field h (chosen c k) (a - h)) (4 * (k + 1))) (λ e″. zero-below)))
+    cond-both (ltb a h) own (cond (ltb (a - h) s) related 0) Below (λ e′. bits-below (arguments g p (k + 1) a)) (λ e′.
+    cond-both (ltb (a - h) s) related 0 Below (λ e″. shifted-below (field h (chosen c k) (a - h)) (4 * (k + 1))) (λ e″. zero-below)))
     (λ e. zero-below)
 
 pub rows-are : (g : Grammar) (p : ℕ) (c : Choice) → Rows (rows-of g p c)
 rows-are g p c = record {
   count = length-map-counting (row-of g p c) 0 16;
   below = λ v.
-    elim (cases-lt v 16)
-    [ inl l ↦ subst (λ (x : ℕ). x < 2 ^ 16) (sym (row-is g p c v l)) (row-below g p c (v / 4) (v % 4))
-    | inr le ↦
-      (let past : length (rows-of g p c) ≤ v = omega (arith, length-map-counting (row-of g p c) 0 16) in
-      subst (λ (x : ℕ). x < 2 ^ 16) (sym (getD-past (rows-of g p c) v 0 past)) (lit< tt))
-    ];
+      elim (cases-lt v 16) [
+        | inl l ↦ subst (λ (x : ℕ). x < 2 ^ 16) (sym (row-is g p c v l)) (row-below g p c (v / 4) (v % 4))
+        | inr le ↦
+            (let past : length (rows-of g p c) ≤ v = omega (arith, length-map-counting (row-of g p c) 0 16) in
+            subst (λ (x : ℕ). x < 2 ^ 16) (sym (getD-past (rows-of g p c) v 0 past)) (lit< tt))
+      ];
 }
 
 -- ---- edges and steps
@@ -217,18 +217,18 @@ module _ (g : Grammar) (text : ℕ → List Segment) (lim : Limits g text) (p : 
   parent-step : (a w : ℕ) → T (has (parent-row g p a) w) → Step (at-root 0 a) (place w)
   parent-step a w t =
       let h = g .inherited (g .symbol p) in
-      elim (cases-lt a h)
-      [ inl inherited ↦ no-step (parent-row g p a) w 0 a (parent-inherited g p a inherited) t
-      | inr above ↦
-        elim (cases-lt (a - h) (g .synthesized (g .symbol p)))
-        [ inl within ↦ rule-step 0 a w (above, omega arith) (subst (λ (x : ℕ). T (has x w)) (parent-given g p a above within) t)
-        | inr past ↦ no-step (parent-row g p a) w 0 a (parent-past g p a above past) t
-        ]
+      elim (cases-lt a h) [
+        | inl inherited ↦ no-step (parent-row g p a) w 0 a (parent-inherited g p a inherited) t
+        | inr above ↦
+            elim (cases-lt (a - h) (g .synthesized (g .symbol p))) [
+              | inl within ↦ rule-step 0 a w (above, omega arith) (subst (λ (x : ℕ). T (has x w)) (parent-given g p a above within) t)
+              | inr past ↦ no-step (parent-row g p a) w 0 a (parent-past g p a above past) t
+            ]
       ]
 
   -- a bit of the relation at a child's place, moved there, is a step over the child
   related-step : (k a w : ℕ) → k < length (g .children p) → g .inherited (child g p k) ≤ a → a - g .inherited (child g p k) < g .synthesized (child g p k)
-    → T (has ((field (g .inherited (child g p k)) (chosen c k) (a - g .inherited (child g p k)) * 2 ^ (4 * (k + 1))) % 2 ^ 16) w) → Step (at-root (suc k) a) (place w)
+      → T (has ((field (g .inherited (child g p k)) (chosen c k) (a - g .inherited (child g p k)) * 2 ^ (4 * (k + 1))) % 2 ^ 16) w) → Step (at-root (suc k) a) (place w)
   related-step k a w inside above within t =
       let h = g .inherited (child g p k) in
       let few = child-few k inside in
@@ -242,19 +242,19 @@ module _ (g : Grammar) (text : ℕ → List Segment) (lim : Limits g text) (p : 
   child-step : (k a w : ℕ) → T (has (child-row g p c k a) w) → Step (at-root (suc k) a) (place w)
   child-step k a w t =
       let h = g .inherited (child g p k) in
-      elim (cases-lt k (length (g .children p)))
-      [ inl inside ↦
-        elim (cases-lt a h)
-        [ inl inherited ↦
-          rule-step (suc k) a w (inside, inherited)
-          (subst (λ (x : ℕ). T (has x w)) (child-given g p c k a inside inherited ∙ ap (λ (i : ℕ). bits-of (arguments g p i a)) (add-one k)) t)
-        | inr above ↦
-          elim (cases-lt (a - h) (g .synthesized (child g p k)))
-          [ inl within ↦ related-step k a w inside above within (subst (λ (x : ℕ). T (has x w)) (child-related g p c k a inside above within) t)
-          | inr past ↦ no-step (child-row g p c k a) w (suc k) a (child-past g p c k a inside above past) t
-          ]
-        ]
-      | inr outside ↦ no-step (child-row g p c k a) w (suc k) a (no-child g p c k a outside) t
+      elim (cases-lt k (length (g .children p))) [
+        | inl inside ↦
+            elim (cases-lt a h) [
+              | inl inherited ↦
+                  rule-step (suc k) a w (inside, inherited)
+                  (subst (λ (x : ℕ). T (has x w)) (child-given g p c k a inside inherited ∙ ap (λ (i : ℕ). bits-of (arguments g p i a)) (add-one k)) t)
+              | inr above ↦
+                  elim (cases-lt (a - h) (g .synthesized (child g p k))) [
+                    | inl within ↦ related-step k a w inside above within (subst (λ (x : ℕ). T (has x w)) (child-related g p c k a inside above within) t)
+                    | inr past ↦ no-step (child-row g p c k a) w (suc k) a (child-past g p c k a inside above past) t
+                  ]
+            ]
+        | inr outside ↦ no-step (child-row g p c k a) w (suc k) a (no-child g p c k a outside) t
       ]
 
   bit-step : (i a w : ℕ) → T (has (row-at g p c i a) w) → Step (at-root i a) (place w)
@@ -301,12 +301,12 @@ module _ (g : Grammar) (text : ℕ → List Segment) (lim : Limits g text) (p : 
       let o = r .argument in
       let small = occurs-small i a (given-occurs g p i a (r .given)) in
       draw x y i a (vertex (o .place) (o .attribute)) (small .0) (small .1) (r .x-is)
-        (r .y-is ∙ sym (argument-place i a o (r .among)))
-        (vertex-below (o .place) (o .attribute))
-        (subst (λ (q : ℕ). T (has q (vertex (o .place) (o .attribute)))) (sym (given-row i a (r .given))) (bits-complete (arguments g p i a) o (r .among)))
+      (r .y-is ∙ sym (argument-place i a o (r .among)))
+      (vertex-below (o .place) (o .attribute))
+      (subst (λ (q : ℕ). T (has q (vertex (o .place) (o .attribute)))) (sym (given-row i a (r .given))) (bits-complete (arguments g p i a) o (r .among)))
 
   draw-over : (x y : Instance) (k b a : ℕ) → k < length (g .children p) → b < g .inherited (child g p k) → g .inherited (child g p k) ≤ a → a < attributes g (child g p k)
-    → Chosen g p c k b a → x ≡ instance (k ∷ []) a → y ≡ instance (k ∷ []) b → Drawn x y
+      → Chosen g p c k b a → x ≡ instance (k ∷ []) a → y ≡ instance (k ∷ []) b → Drawn x y
   draw-over x y k b a inside inherited above below r x-is y-is =
       let h = g .inherited (child g p k) in
       let few = child-few k inside in
@@ -316,8 +316,8 @@ module _ (g : Grammar) (text : ℕ → List Segment) (lim : Limits g text) (p : 
       let k-is : w / 4 ≡ suc k = omega (arith, few) in
       let b-is : w % 4 ≡ b = omega (arith, few) in
       draw x y (suc k) a w small (omega (arith, few)) x-is (y-is ∙ sym (ap₂ at-root k-is b-is)) (omega (arith, few))
-        (subst (λ (q : ℕ). T (has q w)) (sym (child-related g p c k a inside above (omega arith)))
-        (shifted-has (field h (chosen c k) (a - h)) (4 * (k + 1)) h b (field-below h (chosen c k) (a - h)) room r))
+      (subst (λ (q : ℕ). T (has q w)) (sym (child-related g p c k a inside above (omega arith)))
+      (shifted-has (field h (chosen c k) (a - h)) (4 * (k + 1)) h b (field-below h (chosen c k) (a - h)) room r))
 
   pub step-to-edge : (x y : Instance) → Step x y → Drawn x y
   step-to-edge x y (LocalStep.own w) = draw-rule x y w

@@ -48,15 +48,15 @@ module _ (h : ℕ) (f : ℕ → ℕ) (small : (j : ℕ) → f j < 2 ^ h) where
       let fits′ : h * n ≤ 16 = omega (arith, one-more h n) in
       let below : pack h f n < 2 ^ (h * n) = packed-below n fits′ in
       let step : pack h f (suc n) ≡ f n * 2 ^ (h * n) + pack h f n = pack-step n below fits in
-      elim (cases-lt j n)
-      [ inl before ↦
-        sym (field-of-mod h (pack h f (suc n)) n j before)
-        ∙ ap (λ (x : ℕ). field h x j) (ap (λ (x : ℕ). x % 2 ^ (h * n)) step ∙ low (f n) (h * n) below)
-        ∙ packed-field n fits′ j before
-      | inr after ↦
-        (let e : n ≡ j = omega arith in
-        subst (λ (x : ℕ). field h (pack h f (suc n)) x ≡ f x) e
-        (ap (λ (x : ℕ). x % 2 ^ h) (ap (λ (x : ℕ). x / 2 ^ (h * n)) step ∙ high (f n) (h * n) below) ∙ mod-eq-of-lt (small n)))
+      elim (cases-lt j n) [
+        | inl before ↦
+            sym (field-of-mod h (pack h f (suc n)) n j before)
+            ∙ ap (λ (x : ℕ). field h x j) (ap (λ (x : ℕ). x % 2 ^ (h * n)) step ∙ low (f n) (h * n) below)
+            ∙ packed-field n fits′ j before
+        | inr after ↦
+            (let e : n ≡ j = omega arith in
+            subst (λ (x : ℕ). field h (pack h f (suc n)) x ≡ f x) e
+            (ap (λ (x : ℕ). x % 2 ^ h) (ap (λ (x : ℕ). x / 2 ^ (h * n)) step ∙ high (f n) (h * n) below) ∙ mod-eq-of-lt (small n)))
       ]
 
 pub pack-below : (h n : ℕ) (f : ℕ → ℕ) → ((j : ℕ) → f j < 2 ^ h) → h * n ≤ 16 → pack h f n < 2 ^ (h * n)
@@ -75,8 +75,8 @@ fields-same h zero r q hr hq same =
     omega (arith, e)
 fields-same h (suc n) r q hr hq same =
     let rest : r % 2 ^ (h * n) ≡ q % 2 ^ (h * n) =
-          fields-same h n (r % 2 ^ (h * n)) (q % 2 ^ (h * n)) (mod-lt r (pow-pos (h * n))) (mod-lt q (pow-pos (h * n)))
-          (λ j l. field-of-mod h r n j l ∙ same j (omega arith) ∙ sym (field-of-mod h q n j l)) in
+    fields-same h n (r % 2 ^ (h * n)) (q % 2 ^ (h * n)) (mod-lt r (pow-pos (h * n))) (mod-lt q (pow-pos (h * n)))
+    (λ j l. field-of-mod h r n j l ∙ same j (omega arith) ∙ sym (field-of-mod h q n j l)) in
     sym (top-field h n r hr) ∙ ap₂ (λ (x y : ℕ). x * 2 ^ (h * n) + y) (same n (omega arith)) rest ∙ top-field h n q hq
 
 -- with four attributes at most, no more than four pairs

@@ -73,19 +73,19 @@ module _ (P : Outcome → Type 0) (o : Observation P) where
   pub gathered-has : (f : ℕ → Outcome) (set n : ℕ) → P (gathered f set n) → (k : ℕ) × (k < n) × T (has set k) × P (f k)
   gathered-has f set zero h = absurd (o .never h)
   gathered-has f set (suc n) h =
-      elim (last-cases (has set n) (gathered f set n) (f n) h)
-      [ inl a ↦ (let before = gathered-has f set n a in (before .0, omega (arith, before .1), before .2, before .3))
-      | inr b ↦ (n, omega arith, b .0, b .1)
+      elim (last-cases (has set n) (gathered f set n) (f n) h) [
+        | inl a ↦ (let before = gathered-has f set n a in (before .0, omega (arith, before .1), before .2, before .3))
+        | inr b ↦ (n, omega arith, b .0, b .1)
       ]
 
   pub has-gathered : (f : ℕ → Outcome) (set n k : ℕ) → k < n → T (has set k) → P (f k) → P (gathered f set n)
   has-gathered f set zero k l t h = absurd (omega arith)
   has-gathered f set (suc n) k l t h =
-      elim (cases-lt k n)
-      [ inl before ↦ last-keeps (has set n) (gathered f set n) (f n) (has-gathered f set n k before t h)
-      | inr after ↦
-        (let e : k ≡ n = omega arith in
-        last-takes (has set n) (gathered f set n) (f n) (subst (λ (x : ℕ). T (has set x)) e t) (subst (λ (x : ℕ). P (f x)) e h))
+      elim (cases-lt k n) [
+        | inl before ↦ last-keeps (has set n) (gathered f set n) (f n) (has-gathered f set n k before t h)
+        | inr after ↦
+            (let e : k ≡ n = omega arith in
+            last-takes (has set n) (gathered f set n) (f n) (subst (λ (x : ℕ). T (has set x)) e t) (subst (λ (x : ℕ). P (f x)) e h))
       ]
 
   -- three choices, one after another
@@ -108,7 +108,7 @@ module _ (P : Outcome → Type 0) (o : Observation P) where
     pub found-has : P (found-by g p masks) → (c : Choice) × Fits g p masks c × P (outcome-of g p c)
     found-has h =
         let (x, y, z, hx, hy, hz, seen) =
-              gathered-thrice (λ x y z. outcome-of g p (choice x y z)) (choices-at g p masks 0) (choices-at g p masks 1) (choices-at g p masks 2) 16 h in
+        gathered-thrice (λ x y z. outcome-of g p (choice x y z)) (choices-at g p masks 0) (choices-at g p masks 1) (choices-at g p masks 2) 16 h in
         (choice x y z, fits-from g p masks x y z hx hy hz, seen)
 
     pub has-found : (c : Choice) → Fits g p masks c → P (outcome-of g p c) → P (found-by g p masks)

@@ -34,8 +34,8 @@ module _ (f : ℕ → Outcome) (set n : ℕ) (found : Outcome) (found-is : found
   gathered-all m h h′ = let e : n ≡ m = omega arith in found-is ∙ ap (gathered f set) e
 
 pub found-from : (g : Grammar) (p : ℕ) (masks : List ℕ) (firsts seconds thirds : ℕ)
-  → firsts ≡ choices-at g p masks 0 → seconds ≡ choices-at g p masks 1 → thirds ≡ choices-at g p masks 2
-  → gathered (λ x. gathered (λ y. gathered (λ z. outcome-of g p (choice x y z)) thirds 16) seconds 16) firsts 16 ≡ found-by g p masks
+    → firsts ≡ choices-at g p masks 0 → seconds ≡ choices-at g p masks 1 → thirds ≡ choices-at g p masks 2
+    → gathered (λ x. gathered (λ y. gathered (λ z. outcome-of g p (choice x y z)) thirds 16) seconds 16) firsts 16 ≡ found-by g p masks
 found-from g p masks firsts seconds thirds e₁ e₂ e₃ =
     ap (λ s. gathered (λ x. gathered (λ y. gathered (λ z. outcome-of g p (choice x y z)) thirds 16) seconds 16) s 16) e₁
     ∙ ap (λ s. gathered (λ x. gathered (λ y. gathered (λ z. outcome-of g p (choice x y z)) thirds 16) s 16) (choices-at g p masks 0) 16) e₂
@@ -43,7 +43,7 @@ found-from g p masks firsts seconds thirds e₁ e₂ e₃ =
 
 -- one production more in a round
 pub grown-next : (g : Grammar) (p : ℕ) (start masks : List ℕ) → masks ≡ grown g p start → (s : ℕ) → s ≡ g .symbol p → (o : Outcome) → o ≡ found-by g p masks
-  → set masks s (bitOr (getD masks s 0) (o .relations)) ≡ grown g (p + 1) start
+    → set masks s (bitOr (getD masks s 0) (o .relations)) ≡ grown g (p + 1) start
 grown-next g p start masks masks-is s s-is o o-is =
     ap₂ (λ x y. set masks x (bitOr (getD masks x 0) (y .relations))) s-is o-is
     ∙ ap (λ m. set m (g .symbol p) (bitOr (getD m (g .symbol p) 0) (found-by g p m .relations))) masks-is

@@ -52,9 +52,9 @@ members-count n c l = count-low n c ∙ ap ones (mod-eq-of-lt l)
 places : (b : Bool) (xs : List ℕ) (n k : ℕ) → k < length (xs ++ only b n)
     → ((k < length xs) × (getD (xs ++ only b n) k 0 ≡ getD xs k 0)) ⊎ (T b × (getD (xs ++ only b n) k 0 ≡ n) × (length xs ≡ k))
 places b xs n k l =
-    elim (cases-lt k (length xs))
-    [ inl h ↦ inl (h, getD-append-left xs (only b n) 0 k h)
-    | inr h ↦ inr (past b l h)
+    elim (cases-lt k (length xs)) [
+      | inl h ↦ inl (h, getD-append-left xs (only b n) 0 k h)
+      | inr h ↦ inr (past b l h)
     ]
   where
     past : (b : Bool) → k < length (xs ++ only b n) → length xs ≤ k → T b × (getD (xs ++ only b n) k 0 ≡ n) × (length xs ≡ k)
@@ -64,21 +64,21 @@ places b xs n k l =
 pub members-has : (n c k : ℕ) → k < length (members n c) → T (has c (getD (members n c) k 0)) × (getD (members n c) k 0 < n)
 members-has zero c k l = absurd (omega arith)
 members-has (suc n) c k l =
-    elim (places (has c n) (members n c) n k l)
-    [ inl p ↦
-      (let before = members-has n c k (p .0) in
-      (subst (λ (x : ℕ). T (has c x)) (sym (p .1)) (before .0), omega (arith, p .1, before .1)))
-    | inr p ↦ (subst (λ (x : ℕ). T (has c x)) (sym (p .1)) (p .0), omega (arith, p .1))
+    elim (places (has c n) (members n c) n k l) [
+      | inl p ↦
+          (let before = members-has n c k (p .0) in
+          (subst (λ (x : ℕ). T (has c x)) (sym (p .1)) (before .0), omega (arith, p .1, before .1)))
+      | inr p ↦ (subst (λ (x : ℕ). T (has c x)) (sym (p .1)) (p .0), omega (arith, p .1))
     ]
 
 pub members-rise : (n c j k : ℕ) → j < k → k < length (members n c) → getD (members n c) j 0 < getD (members n c) k 0
 members-rise zero c j k l h = absurd (omega arith)
 members-rise (suc n) c j k l h =
-    elim (places (has c n) (members n c) n k h)
-    [ inl p ↦ omega (arith, p .1, getD-append-left (members n c) (only (has c n) n) 0 j (omega (arith, p .0)), members-rise n c j k l (p .0))
-    | inr p ↦
-      (let before : j < length (members n c) = omega (arith, p .2) in
-      omega (arith, p .1, getD-append-left (members n c) (only (has c n) n) 0 j before, members-has n c j before .1))
+    elim (places (has c n) (members n c) n k h) [
+      | inl p ↦ omega (arith, p .1, getD-append-left (members n c) (only (has c n) n) 0 j (omega (arith, p .0)), members-rise n c j k l (p .0))
+      | inr p ↦
+          (let before : j < length (members n c) = omega (arith, p .2) in
+          omega (arith, p .1, getD-append-left (members n c) (only (has c n) n) 0 j before, members-has n c j before .1))
     ]
 
 -- the new one has its place
@@ -89,14 +89,15 @@ last-place false xs n t = elim t [ ]
 pub members-all : (n c x : ℕ) → x < n → T (has c x) → (k : ℕ) × (k < length (members n c)) × (getD (members n c) k 0 ≡ x)
 members-all zero c x l t = absurd (omega arith)
 members-all (suc n) c x l t =
-    elim (cases-lt x n)
-    [ inl h ↦
-      (let before = members-all n c x h t in
-      (before .0,
-       omega (arith, length-append (members n c) (only (has c n) n), before .1),
-       getD-append-left (members n c) (only (has c n) n) 0 (before .0) (before .1) ∙ before .2))
-    | inr h ↦
-      (let e : n ≡ x = omega arith in
-      let last = last-place (has c n) (members n c) n (subst (λ (y : ℕ). T (has c y)) (sym e) t) in
-      (last .0, last .1, last .2 ∙ e))
+    elim (cases-lt x n) [
+      | inl h ↦
+          (let before = members-all n c x h t in (
+            before .0,
+            omega (arith, length-append (members n c) (only (has c n) n), before .1),
+            getD-append-left (members n c) (only (has c n) n) 0 (before .0) (before .1) ∙ before .2,
+          ))
+      | inr h ↦
+          (let e : n ≡ x = omega arith in
+          let last = last-place (has c n) (members n c) n (subst (λ (y : ℕ). T (has c y)) (sym e) t) in
+          (last .0, last .1, last .2 ∙ e))
     ]

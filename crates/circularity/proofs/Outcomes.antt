@@ -52,16 +52,17 @@ module _ (g : Grammar) (s : ℕ) (t u : Tree) where
   code-unique r q cr cq same =
       let h = g .inherited s in
       fields-same h (g .synthesized s) r q (cr .below) (cq .below) (λ j l.
-        bits-same h (field h r j) (field h q j) (field-below h r j) (field-below h q j) (λ i k.
-          let both = same i (h + j) k (omega arith) (omega arith) in
-          ((λ x. cq .complete i j k l (both .0 (cr .sound i j k l x))), (λ x. cr .complete i j k l (both .1 (cq .sound i j k l x))))))
+      bits-same h (field h r j) (field h q j) (field-below h r j) (field-below h q j) (λ i k.
+      let both = same i (h + j) k (omega arith) (omega arith) in
+      ((λ x. cq .complete i j k l (both .0 (cr .sound i j k l x))), (λ x. cr .complete i j k l (both .1 (cq .sound i j k l x))))))
 
   pub same-code : (r : ℕ) → Code g s t r → Code g s u r → SameRelation g s t u
   same-code r ct cu i a inherited above exists =
       let j = a - g .inherited s in
-      let l : j < g .synthesized s = omega arith in
-      ((λ x. by-attribute g s u i a above (cu .sound i j inherited l (ct .complete i j inherited l (by-number g s t i a above x)))),
-       (λ x. by-attribute g s t i a above (ct .sound i j inherited l (cu .complete i j inherited l (by-number g s u i a above x)))))
+      let l : j < g .synthesized s = omega arith in (
+        (λ x. by-attribute g s u i a above (cu .sound i j inherited l (ct .complete i j inherited l (by-number g s t i a above x)))),
+        (λ x. by-attribute g s t i a above (ct .sound i j inherited l (cu .complete i j inherited l (by-number g s u i a above x)))),
+      )
 
 -- ---- the relation of a closed graph
 
@@ -89,21 +90,21 @@ module _ (h s : ℕ) (few : h + s ≤ 4) (rows : List ℕ) where
 pub cyclic-some : (rows : List ℕ) (n : ℕ) → T (cyclic-below rows n) → (v : ℕ) × (v < n) × Edge rows v v
 cyclic-some rows zero t = elim t [ ]
 cyclic-some rows (suc n) t =
-    elim (T-either (cyclic-below rows n) (has (getD rows n 0) n) t)
-    [ inl before ↦
-      (let found = cyclic-some rows n before in
-      (found .0, omega (arith, found .1), found .2))
-    | inr here ↦ (n, omega arith, here)
+    elim (T-either (cyclic-below rows n) (has (getD rows n 0) n) t) [
+      | inl before ↦
+          (let found = cyclic-some rows n before in
+          (found .0, omega (arith, found .1), found .2))
+      | inr here ↦ (n, omega arith, here)
     ]
 
 pub some-cyclic : (rows : List ℕ) (n v : ℕ) → v < n → Edge rows v v → T (cyclic-below rows n)
 some-cyclic rows zero v l e = absurd (omega arith)
 some-cyclic rows (suc n) v l e =
-    elim (cases-lt v n)
-    [ inl before ↦ T-left (cyclic-below rows n) (has (getD rows n 0) n) (some-cyclic rows n v before e)
-    | inr last ↦
-      (let q : v ≡ n = omega arith in
-      T-right (cyclic-below rows n) (has (getD rows n 0) n) (subst (λ (x : ℕ). Edge rows x x) q e))
+    elim (cases-lt v n) [
+      | inl before ↦ T-left (cyclic-below rows n) (has (getD rows n 0) n) (some-cyclic rows n v before e)
+      | inr last ↦
+          (let q : v ≡ n = omega arith in
+          T-right (cyclic-below rows n) (has (getD rows n 0) n) (subst (λ (x : ℕ). Edge rows x x) q e))
     ]
 
 -- ---- the outcome and the tree
@@ -143,9 +144,9 @@ module _ (g : Grammar) (text : ℕ → List Segment) (lim : Limits g text) (p : 
     pub exact : Exact g p (Chosen g p c) this
     exact = record {
       sound = λ k b a inside inherited above below r.
-        by-attribute g (child g p k) (hanging this k) b a above (codes k inside .sound b (a - g .inherited (child g p k)) inherited (omega arith) r);
+          by-attribute g (child g p k) (hanging this k) b a above (codes k inside .sound b (a - g .inherited (child g p k)) inherited (omega arith) r);
       complete = λ k b a inside inherited above below r.
-        codes k inside .complete b (a - g .inherited (child g p k)) inherited (omega arith) (by-number g (child g p k) (hanging this k) b a above r);
+          codes k inside .complete b (a - g .inherited (child g p k)) inherited (omega arith) (by-number g (child g p k) (hanging this k) b a above r);
     }
 
     pub outcome-code : Code g (g .symbol p) this (relation-of g p c)
@@ -155,21 +156,21 @@ module _ (g : Grammar) (text : ℕ → List Segment) (lim : Limits g text) (p : 
         record {
           below = relation-below h (g .synthesized (g .symbol p)) own-few rows;
           sound = λ i j k m t.
-            let edge : Edge rows (h + j) i =
-                  T-along (has (field h (relation-of g p c) j) i) (has (getD rows (h + j) 0) i)
-                  (relation-has h (g .synthesized (g .symbol p)) own-few rows i j k m) t in
-            let a-is : place (h + j) ≡ instance [] (h + j) = own-place (h + j) (omega (arith, own-few)) in
-            let i-is : place i ≡ instance [] i = own-place i (omega (arith, own-few)) in
-            local-to-tree g (g .symbol p) n p l first second third (Chosen g p c) own-tree exact
-            (rw (← a-is, ← i-is) (closed-to-steps (h + j) i edge));
+              let edge : Edge rows (h + j) i =
+              T-along (has (field h (relation-of g p c) j) i) (has (getD rows (h + j) 0) i)
+              (relation-has h (g .synthesized (g .symbol p)) own-few rows i j k m) t in
+              let a-is : place (h + j) ≡ instance [] (h + j) = own-place (h + j) (omega (arith, own-few)) in
+              let i-is : place i ≡ instance [] i = own-place i (omega (arith, own-few)) in
+              local-to-tree g (g .symbol p) n p l first second third (Chosen g p c) own-tree exact
+              (rw (← a-is, ← i-is) (closed-to-steps (h + j) i edge));
           complete = λ i j k m r.
-            let a-is : place (h + j) ≡ instance [] (h + j) = own-place (h + j) (omega (arith, own-few)) in
-            let i-is : place i ≡ instance [] i = own-place i (omega (arith, own-few)) in
-            let way : Over (LocalStep g p (Chosen g p c)) (instance [] (h + j)) (instance [] i) =
-                  tree-to-local g (g .symbol p) n p l first second third (Chosen g p c) own-tree exact (h + j) i k (omega arith) r in
-            T-back (has (field h (relation-of g p c) j) i) (has (getD rows (h + j) 0) i)
-            (relation-has h (g .synthesized (g .symbol p)) own-few rows i j k m)
-            (steps-to-closed (h + j) i (rw (a-is, i-is) way));
+              let a-is : place (h + j) ≡ instance [] (h + j) = own-place (h + j) (omega (arith, own-few)) in
+              let i-is : place i ≡ instance [] i = own-place i (omega (arith, own-few)) in
+              let way : Over (LocalStep g p (Chosen g p c)) (instance [] (h + j)) (instance [] i) =
+              tree-to-local g (g .symbol p) n p l first second third (Chosen g p c) own-tree exact (h + j) i k (omega arith) r in
+              T-back (has (field h (relation-of g p c) j) i) (has (getD rows (h + j) 0) i)
+              (relation-has h (g .synthesized (g .symbol p)) own-few rows i j k m)
+              (steps-to-closed (h + j) i (rw (a-is, i-is) way));
         }
 
     pub cyclic-has-own-cycle : T (outcome-of g p c .cyclic) → (x : Instance) × (y : Instance) × WaitsAtRoot g this x y × Star (Waits g this) y x
@@ -181,15 +182,15 @@ module _ (g : Grammar) (text : ℕ → List Segment) (lim : Limits g text) (p : 
     -- a way of the local graph begins at a vertex
     begins : (x y : Instance) → Over (LocalStep g p (Chosen g p c)) x y → (v : ℕ) × (v < 16) × (x ≡ place v)
     begins x y o =
-        elim (first-step o)
-        [ inl r ↦ (let d = step-to-edge g text lim p exists c x y r in (d .from, d .from-below, d .x-is))
-        | inr m ↦ (let d = step-to-edge g text lim p exists c x (m .0) (m .1) in (d .from, d .from-below, d .x-is))
+        elim (first-step o) [
+          | inl r ↦ (let d = step-to-edge g text lim p exists c x y r in (d .from, d .from-below, d .x-is))
+          | inr m ↦ (let d = step-to-edge g text lim p exists c x (m .0) (m .1) in (d .from, d .from-below, d .x-is))
         ]
 
     pub own-cycle-is-cyclic : (x y : Instance) → WaitsAtRoot g this x y → Star (Waits g this) y x → T (outcome-of g p c .cyclic)
     own-cycle-is-cyclic x y w back =
         let way : Over (LocalStep g p (Chosen g p c)) x x =
-              own-cycle-to-local g (g .symbol p) n p l first second third (Chosen g p c) own-tree exact x y w back in
+        own-cycle-to-local g (g .symbol p) n p l first second third (Chosen g p c) own-tree exact x y w back in
         let start = begins x x way in
         some-cyclic (closed-below 16 (rows-of g p c)) 16 (start .0) (start .1)
         (steps-to-closed (start .0) (start .0) (subst (λ (z : Instance). Over (LocalStep g p (Chosen g p c)) z z) (start .2) way))

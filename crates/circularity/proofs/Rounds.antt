@@ -27,7 +27,7 @@ module _ (g : Grammar) (text : ℕ → List Segment) (lim : Limits g text) where
 
   -- a round that changes the sum of the sets brings it nearer to its bound
   pub nearer : (masks masks′ : List ℕ) (n : ℕ) → masks ≡ rounds g n → masks′ ≡ grown g (g .productions) masks → (sum masks′ ≡ sum masks → ⊥)
-    → 1048560 - sum masks′ < 1048560 - sum masks
+      → 1048560 - sum masks′ < 1048560 - sum masks
   nearer masks masks′ n masks-is grown-is differs =
       let sound : Sound g masks = subst (Sound g) (sym masks-is) (rounds-sound n) in
       let rows = grown-rows g text lim masks (sound-rows g masks sound) (g .productions) (omega arith) in
@@ -41,7 +41,7 @@ module _ (g : Grammar) (text : ℕ → List Segment) (lim : Limits g text) where
 
   -- the verdicts from saturated sets
   pub saturated-passes : (masks : List ℕ) → Saturated g masks → ((p : ℕ) → p < g .productions → T (found-by g p masks .cyclic) → ⊥)
-    → (n : ℕ) → n ≡ counted masks (g .symbols) → (Circular g → ⊥) × RelationCount g n
+      → (n : ℕ) → n ≡ counted masks (g .symbols) → (Circular g → ⊥) × RelationCount g n
   saturated-passes masks s acyclic n n-is =
       let sound = saturated-sound masks s in
       let closed = saturated-closed masks s in

@@ -11,7 +11,6 @@ use Rattle.circularity.specs.Bits.{field}
 use Rattle.circularity.proofs.Small.{symbol-asked}
 use Rattle.circularity.specs.Working.{bits-of, chosen, parent-row, child-row, row-of}
 
-
 module _ (g : Grammar) (p a : ℕ) where
   pub parent-inherited : a < g .inherited (g .symbol p) → parent-row g p a ≡ 0
   parent-inherited h = rw (lt-ltb a (g .inherited (g .symbol p)) h)
@@ -30,7 +29,7 @@ module _ (g : Grammar) (p : ℕ) (c : Choice) (k a : ℕ) where
   child-given h h′ = rw (lt-ltb k (length (g .children p)) h, lt-ltb a (g .inherited (child g p k)) h′)
 
   pub child-related : k < length (g .children p) → g .inherited (child g p k) ≤ a → a - g .inherited (child g p k) < g .synthesized (child g p k)
-    → child-row g p c k a ≡ (field (g .inherited (child g p k)) (chosen c k) (a - g .inherited (child g p k)) * 2 ^ (4 * (k + 1))) % 2 ^ 16
+      → child-row g p c k a ≡ (field (g .inherited (child g p k)) (chosen c k) (a - g .inherited (child g p k)) * 2 ^ (4 * (k + 1))) % 2 ^ 16
   child-related h h′ h″ =
       rw (lt-ltb k (length (g .children p)) h, le-ltb a (g .inherited (child g p k)) h′, lt-ltb (a - g .inherited (child g p k)) (g .synthesized (child g p k)) h″)
 
@@ -54,7 +53,7 @@ module _ (g : Grammar) (p : ℕ) (c : Choice) (k a : ℕ) (symbols : List ℕ) (
   asked-given row row-is below = row-is ∙ sym (child-given g p c k a inside-is (rw (← inherited-is) below))
 
   pub asked-related : (s r f : ℕ) → s ≡ g .synthesized (getD symbols k 0) → r ≡ chosen c k → f ≡ field h r (a - h) → h ≤ a → a - h < s
-    → (f * 2 ^ (4 * (k + 1))) % 2 ^ 16 ≡ child-row g p c k a
+      → (f * 2 ^ (4 * (k + 1))) % 2 ^ 16 ≡ child-row g p c k a
   asked-related s r f s-is r-is f-is above within =
       let s-is′ : s ≡ g .synthesized (child g p k) = s-is ∙ ap (g .synthesized) symbol-is in
       ap (λ x. (x * 2 ^ (4 * (k + 1))) % 2 ^ 16) (f-is ∙ ap (λ x. field h x (a - h)) r-is ∙ ap (λ x. field x (chosen c k) (a - x)) inherited-is)

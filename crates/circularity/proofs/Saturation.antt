@@ -55,20 +55,20 @@ module _ (xs : List ℕ) (i b : ℕ) (inside : i < length xs) where
 
   put-has : (j r : ℕ) → T (has (getD (put xs i b) j 0) r) → T (has (getD xs j 0) r) ⊎ ((i ≡ j) × T (has b r))
   put-has j r t =
-      elim (cases-eq j i)
-      [ inl e ↦
-        elim (or-has (getD xs i 0) b r (subst (λ (x : ℕ). T (has x r)) (ap (λ (k : ℕ). getD (put xs i b) k 0) e ∙ put-here) t))
-        [ inl u ↦ inl (subst (λ (k : ℕ). T (has (getD xs k 0) r)) (sym e) u)
-        | inr u ↦ inr (sym e, u)
-        ]
-      | inr other ↦ inl (subst (λ (x : ℕ). T (has x r)) (put-elsewhere j other) t)
+      elim (cases-eq j i) [
+        | inl e ↦
+            elim (or-has (getD xs i 0) b r (subst (λ (x : ℕ). T (has x r)) (ap (λ (k : ℕ). getD (put xs i b) k 0) e ∙ put-here) t)) [
+              | inl u ↦ inl (subst (λ (k : ℕ). T (has (getD xs k 0) r)) (sym e) u)
+              | inr u ↦ inr (sym e, u)
+            ]
+        | inr other ↦ inl (subst (λ (x : ℕ). T (has x r)) (put-elsewhere j other) t)
       ]
 
   put-below : ((j : ℕ) → getD xs j 0 < 2 ^ 16) → b < 2 ^ 16 → (j : ℕ) → getD (put xs i b) j 0 < 2 ^ 16
   put-below small new j =
-      elim (cases-eq j i)
-      [ inl e ↦ subst (λ (x : ℕ). x < 2 ^ 16) (sym (ap (λ (k : ℕ). getD (put xs i b) k 0) e ∙ put-here)) (or-lt 16 (getD xs i 0) b (small i) new)
-      | inr other ↦ subst (λ (x : ℕ). x < 2 ^ 16) (sym (put-elsewhere j other)) (small j)
+      elim (cases-eq j i) [
+        | inl e ↦ subst (λ (x : ℕ). x < 2 ^ 16) (sym (ap (λ (k : ℕ). getD (put xs i b) k 0) e ∙ put-here)) (or-lt 16 (getD xs i 0) b (small i) new)
+        | inr other ↦ subst (λ (x : ℕ). x < 2 ^ 16) (sym (put-elsewhere j other)) (small j)
       ]
 
   put-sum : sum (put xs i b) + getD xs i 0 ≡ sum xs + bitOr (getD xs i 0) b
@@ -142,10 +142,11 @@ module _ (g : Grammar) (text : ℕ → List Segment) (lim : Limits g text) (mask
           let b = found-by g n before .relations in
           let inside = symbol-inside g text lim before count n (omega arith) in
           let was = earlier (le-through (sum before) (sum (put before i b)) (sum masks) (put-more before i b inside) less) in
-          let same = put-same before i b inside (le-through (sum (put before i b)) (sum masks) (sum before) less more) in
-          (put-nothing before i b same ∙ was .0,
-           one-further (ClosedAt g masks) n (was .1)
-           (subst (λ (m : List ℕ). ClosedAt g m n) (was .0) (λ r t. or-same-means-below (getD before i 0) b same r t)))
+          let same = put-same before i b inside (le-through (sum (put before i b)) (sum masks) (sum before) less more) in (
+            put-nothing before i b same ∙ was .0,
+            one-further (ClosedAt g masks) n (was .1)
+                (subst (λ (m : List ℕ). ClosedAt g m n) (was .0) (λ r t. or-same-means-below (getD before i 0) b same r t)),
+          )
 
   pub settled : sum (grown g (g .productions) masks) ≡ sum masks → Closed g masks
   settled e =
@@ -188,11 +189,11 @@ module _ (g : Grammar) (text : ℕ → List Segment) (lim : Limits g text) where
 
   hang : (masks : List ℕ) → Sound g masks → (p : ℕ) → p < g .productions → (k r : ℕ) → T (has (choices-at g p masks k) r) → Hung g p k r
   hang masks sound p exists k r t =
-      elim (cases-lt k (length (g .children p)))
-      [ inl h ↦
-        (let found = sound .realised (child g p k) r (lim .each p exists .child-exists k h .1) (subst (λ (x : ℕ). T (has x r)) (choices-of-child g p masks k h) t) in
-        (found .0, found .1, λ _. found .2))
-      | inr h ↦ (none, getD-past (g .children p) k (g .symbols) h, λ l. absurd (omega arith))
+      elim (cases-lt k (length (g .children p))) [
+        | inl h ↦
+            (let found = sound .realised (child g p k) r (lim .each p exists .child-exists k h .1) (subst (λ (x : ℕ). T (has x r)) (choices-of-child g p masks k h) t) in
+            (found .0, found .1, λ _. found .2))
+        | inr h ↦ (none, getD-past (g .children p) k (g .symbols) h, λ l. absurd (omega arith))
       ]
 
   pub realise : (masks : List ℕ) → Sound g masks → (p : ℕ) → p < g .productions → (c : Choice) → Fits g p masks c → Realised g p c
@@ -222,10 +223,12 @@ module _ (g : Grammar) (text : ℕ → List Segment) (lim : Limits g text) where
       → (t : Tree) × TreeOf g (g .symbol p) t × Code g (g .symbol p) t r
   found-realised masks sound p exists r t =
       let (c, fits, seen) = found-has (λ x. T (has (x .relations) r)) (relation-seen r) g p masks t in
-      let tree = realise masks sound p exists c fits in
-      (node 0 p (pos 0) (tree .first) (tree .second) (tree .third), tree .is-tree,
-       subst (Code g (g .symbol p) (node 0 p (pos 0) (tree .first) (tree .second) (tree .third))) (relation-only p exists c r seen)
-       (outcome-code g text lim p exists c (g .symbol p) 0 (pos 0) (tree .first) (tree .second) (tree .third) (tree .is-tree) (tree .codes)))
+      let tree = realise masks sound p exists c fits in (
+        node 0 p (pos 0) (tree .first) (tree .second) (tree .third),
+        tree .is-tree,
+        subst (Code g (g .symbol p) (node 0 p (pos 0) (tree .first) (tree .second) (tree .third))) (relation-only p exists c r seen)
+            (outcome-code g text lim p exists c (g .symbol p) 0 (pos 0) (tree .first) (tree .second) (tree .third) (tree .is-tree) (tree .codes)),
+      )
 
   step-sound : (masks : List ℕ) → Sound g masks → (p : ℕ) → p < g .productions → Sound g (put masks (g .symbol p) (found-by g p masks .relations))
   step-sound masks sound p exists =
@@ -234,10 +237,10 @@ module _ (g : Grammar) (text : ℕ → List Segment) (lim : Limits g text) where
         count = rows .count;
         below = rows .below;
         realised = λ s r l t.
-          elim (put-has masks (g .symbol p) (found-by g p masks .relations) (symbol-inside g text lim masks (sound .count) p exists) s r t)
-          [ inl old ↦ sound .realised s r l old
-          | inr new ↦ subst (λ (q : ℕ). (t : Tree) × TreeOf g q t × Code g q t r) (new .0) (found-realised masks sound p exists r (new .1))
-          ];
+            elim (put-has masks (g .symbol p) (found-by g p masks .relations) (symbol-inside g text lim masks (sound .count) p exists) s r t) [
+              | inl old ↦ sound .realised s r l old
+              | inr new ↦ subst (λ (q : ℕ). (t : Tree) × TreeOf g q t × Code g q t r) (new .0) (found-realised masks sound p exists r (new .1))
+            ];
       }
 
   pub grown-sound : (masks : List ℕ) → Sound g masks → (n : ℕ) → n ≤ g .productions → Sound g (grown g n masks)
@@ -254,9 +257,9 @@ module _ (g : Grammar) (text : ℕ → List Segment) (lim : Limits g text) where
     where
       all-zero : (s : ℕ) → getD {A = ℕ} (replicate 16 0) s 0 ≡ 0
       all-zero s =
-          elim (cases-lt s 16)
-          [ inl l ↦ getD-replicate {A = ℕ} 16 s 0 0 l
-          | inr le ↦ getD-past (replicate {A = ℕ} 16 0) s 0 (omega (arith, length-replicate {A = ℕ} 16 0))
+          elim (cases-lt s 16) [
+            | inl l ↦ getD-replicate {A = ℕ} 16 s 0 0 l
+            | inr le ↦ getD-past (replicate {A = ℕ} 16 0) s 0 (omega (arith, length-replicate {A = ℕ} 16 0))
           ]
 
 -- ---- where nothing is new, every tree's relation is in the sets
@@ -278,11 +281,11 @@ ToChoose g masks p k t = (r : ℕ) × ((r < 16) × T (has (choices-at g p masks 
 module _ (g : Grammar) (text : ℕ → List Segment) (lim : Limits g text) (masks : List ℕ) where
   to-choose : (p k : ℕ) (t : Tree) → (k < length (g .children p) → Known g masks (child g p k) t) → ToChoose g masks p k t
   to-choose p k t known =
-      elim (cases-lt k (length (g .children p)))
-      [ inl h ↦
-        (let (r, there, code, small) = known h in
-        (r, (small, subst (λ (x : ℕ). T (has x r)) (sym (choices-of-child g p masks k h)) there), λ _. code))
-      | inr h ↦ (0, (omega arith, subst (λ (x : ℕ). T (has x 0)) (sym (choices-of-none g p masks k h)) tt), λ l. absurd (omega arith))
+      elim (cases-lt k (length (g .children p))) [
+        | inl h ↦
+            (let (r, there, code, small) = known h in
+            (r, (small, subst (λ (x : ℕ). T (has x r)) (sym (choices-of-child g p masks k h)) there), λ _. code))
+        | inr h ↦ (0, (omega arith, subst (λ (x : ℕ). T (has x 0)) (sym (choices-of-none g p masks k h)) tt), λ l. absurd (omega arith))
       ]
 
   coded-by : (n p : ℕ) (l : ℤ) (a b d : Tree) → p < g .productions → ToChoose g masks p 0 a → ToChoose g masks p 1 b → ToChoose g masks p 2 d
@@ -307,18 +310,19 @@ module _ (g : Grammar) (text : ℕ → List Segment) (lim : Limits g text) (mask
     known-by s n p l a b d h q =
         let c = q .chosen-ones in
         let r = relation-of g p c in
-        let found = has-found (λ x. T (has (x .relations) r)) (relation-seen r) g p masks c (q .fits) (relation-there g text lim p (h .0) c) in
-        (r,
-         subst (λ (i : ℕ). T (has (getD masks i 0) r)) (h .1) (closed .closed p r (h .0) found),
-         subst (λ (i : ℕ). Code g i (node n p l a b d) r) (h .1) (outcome-code g text lim p (h .0) c s n l a b d h (q .codes)),
-         relation-small g text lim p (h .0) c)
+        let found = has-found (λ x. T (has (x .relations) r)) (relation-seen r) g p masks c (q .fits) (relation-there g text lim p (h .0) c) in (
+          r,
+          subst (λ (i : ℕ). T (has (getD masks i 0) r)) (h .1) (closed .closed p r (h .0) found),
+          subst (λ (i : ℕ). Code g i (node n p l a b d) r) (h .1) (outcome-code g text lim p (h .0) c s n l a b d h (q .codes)),
+          relation-small g text lim p (h .0) c,
+        )
 
     pub complete : (s : ℕ) (t : Tree) → s < g .symbols → TreeOf g s t → Known g masks s t
     complete s none exists h = absurd (omega arith)
     complete s (node n p l a b d) exists h =
         known-by s n p l a b d h
         (coded-from s n p l a b d h
-         (λ e. complete (child g p 0) a e (h .2)) (λ e. complete (child g p 1) b e (h .3)) (λ e. complete (child g p 2) d e (h .4)))
+        (λ e. complete (child g p 0) a e (h .2)) (λ e. complete (child g p 1) b e (h .3)) (λ e. complete (child g p 2) d e (h .4)))
 
     pub coded : (s n p : ℕ) (l : ℤ) (a b d : Tree) → TreeOf g s (node n p l a b d) → Coded g masks p (node n p l a b d)
     coded s n p l a b d h =

@@ -31,13 +31,13 @@ module _ (g : Grammar) (p k : ℕ) (symbols : List ℕ) (symbols-is : symbols �
   symbol-asked = rw symbols-is (getD-default (g .children p) k 0 (g .symbols) (rw (← symbols-is) inside))
 
 pub asked-symbol : (g : Grammar) (text : ℕ → List Segment) → Limits g text → (p : ℕ) → p < g .productions
-  → (k : ℕ) (symbols : List ℕ) → symbols ≡ g .children p → k < length symbols → getD symbols k 0 < 16
+    → (k : ℕ) (symbols : List ℕ) → symbols ≡ g .children p → k < length symbols → getD symbols k 0 < 16
 asked-symbol g text lim p exists k symbols symbols-is inside =
     rw (symbol-asked g p k symbols symbols-is inside)
     (omega (arith, lim .each p exists .child-exists k (rw (← symbols-is) inside) .1, lim .few-symbols))
 
 pub asked-choice : (g : Grammar) (p : ℕ) (masks : List ℕ) (k : ℕ) (symbols : List ℕ) → symbols ≡ g .children p → k < length symbols
-  → getD masks (getD symbols k 0) 0 ≡ choices-at g p masks k
+    → getD masks (getD symbols k 0) 0 ≡ choices-at g p masks k
 asked-choice g p masks k symbols symbols-is inside =
     rw (symbol-asked g p k symbols symbols-is inside, lt-ltb k (length (g .children p)) (rw (← symbols-is) inside))
 

@@ -85,10 +85,12 @@ module _ (g : Grammar) (s n p : ℕ) (l : ℤ) (first second third : Tree) (R : 
   -- an attribute that waits on something inside the tree at child place k is synthesized there
   pub starts-synthesized : (k e : ℕ) (u : Instance) → Waits g (hanging this k) (instance [] e) u → (g .inherited (child g p k) ≤ e) × (e < attributes g (child g p k))
   starts-synthesized k e u w = elim (step-cases g (hanging this k) w) [
-      inl at-root ↦ elim (child-tree g s n p l first second third is-tree k) [
-          inl h ↦ given-at-root g (child g p k) (hanging this k) h e u at-root
-        | inr nothing ↦ absurd (subst (λ t. WaitsAtRoot g t (instance [] e) u) nothing at-root) ]
-    | inr m ↦ absurd (below-not-root (instance [] e) (m .1) (m .0) e (m .4) refl) ]
+    | inl at-root ↦ elim (child-tree g s n p l first second third is-tree k) [
+      | inl h ↦ given-at-root g (child g p k) (hanging this k) h e u at-root
+      | inr nothing ↦ absurd (subst (λ t. WaitsAtRoot g t (instance [] e) u) nothing at-root)
+    ]
+    | inr m ↦ absurd (below-not-root (instance [] e) (m .1) (m .0) e (m .4) refl)
+  ]
 
   -- a way inside the tree at child place k from an attribute of its root to an inherited one is a local step
   pub across : (k e b : ℕ) → k < length (g .children p) → b < g .inherited (child g p k) → Star (Waits g (hanging this k)) (instance [] e) (instance [] b) → Star (LocalStep g p R) (instance (k ∷ []) e) (instance (k ∷ []) b)
@@ -139,8 +141,9 @@ module _ (g : Grammar) (s n p : ℕ) (l : ℤ) (first second third : Tree) (R : 
   pub tree-to-local : (a i : ℕ) → i < g .inherited s → g .inherited s ≤ a → Over (Waits g this) (instance [] a) (instance [] i) → Over (LocalStep g p R) (instance [] a) (instance [] i)
   tree-to-local a i inherited synthesized o =
       elim (close-at-root (instance [] a) (instance [] i) i refl (reach (instance [] a) (at-own a refl (inl refl)) o)) [
-        inl q ↦ let same : a ≡ i = ap (λ z. z .attribute) q in absurd (omega arith)
-      | inr found ↦ found ]
+        | inl q ↦ let same : a ≡ i = ap (λ z. z .attribute) q in absurd (omega arith)
+        | inr found ↦ found
+      ]
 
   -- a cycle through one of the root's own rules is a cycle of the local graph
   pub own-cycle-to-local : (x y : Instance) → WaitsAtRoot g this x y → Star (Waits g this) y x → Over (LocalStep g p R) x x
@@ -169,8 +172,9 @@ module _ (g : Grammar) (s n p : ℕ) (l : ℤ) (first second third : Tree) (R : 
 
   pub cycle-from : (z : Instance) (k b : ℕ) → z ≡ instance (k ∷ []) b → b < g .inherited (child g p k) → Over (LocalStep g p R) z z → OwnCycle
   cycle-from z k b e inherited o = elim (first-step o) [
-      inl r ↦ (z, z, own-after z z k b e inherited r, inl refl)
-    | inr m ↦ (z, m .0, own-after z (m .0) k b e inherited (m .1), inr (local-to-tree (m .2))) ]
+    | inl r ↦ (z, z, own-after z z k b e inherited r, inl refl)
+    | inr m ↦ (z, m .0, own-after z (m .0) k b e inherited (m .1), inr (local-to-tree (m .2)))
+  ]
 
   -- a cycle by its last step, from y to z, after a way from z to y
   pub cycle-by-last : (y z : Instance) → Star (LocalStep g p R) z y → LocalStep g p R y z → OwnCycle

@@ -40,17 +40,17 @@ abbrev pub Turned : List ℕ → List ℕ → List ℕ → ℕ → Type 0
 Turned start end rows i = ((k : ℕ) → k < i → getD rows k 0 ≡ getD end k 0) × ((k : ℕ) → i ≤ k → getD rows k 0 ≡ getD start k 0)
 
 pub turned-more : (start end rows rows′ : List ℕ) (i : ℕ) → Turned start end rows i → getD rows′ i 0 ≡ getD end i 0
-  → ((k : ℕ) → k ≢ i → getD rows′ k 0 ≡ getD rows k 0) → Turned start end rows′ (i + 1)
-turned-more start end rows rows′ i inv here others =
-    ( λ k h. ⊎-elim (λ e. rw e here) (λ (ne : k ≢ i). others k ne ∙ inv .0 k (omega arith)) (cases-eq k i)
-    , λ k h. let ne : k ≢ i = omega arith in others k ne ∙ inv .1 k (omega arith)
-    )
+    → ((k : ℕ) → k ≢ i → getD rows′ k 0 ≡ getD rows k 0) → Turned start end rows′ (i + 1)
+turned-more start end rows rows′ i inv here others = (
+  λ k h. ⊎-elim (λ e. rw e here) (λ (ne : k ≢ i). others k ne ∙ inv .0 k (omega arith)) (cases-eq k i),
+  λ k h. let ne : k ≢ i = omega arith in others k ne ∙ inv .1 k (omega arith),
+)
 
 pub turned-all : (start end rows : List ℕ) (i : ℕ) → Turned start end rows i → length rows ≡ length end → length end ≤ i → rows ≡ end
 turned-all start end rows i inv long past = ext-getD 0 rows end long (λ k h. inv .0 k (omega arith))
 
 -- a loop that writes f k at each place k, at its next turn
 pub written-more : (f : ℕ → ℕ) (rows : List ℕ) (i x : ℕ) → i < length rows → ((k : ℕ) → k < i → getD rows k 0 ≡ f k) → x ≡ f i
-  → (k : ℕ) → k < i + 1 → getD (set rows i x) k 0 ≡ f k
+    → (k : ℕ) → k < i + 1 → getD (set rows i x) k 0 ≡ f k
 written-more f rows i x inside before here k h =
     ⊎-elim (λ e. rw e (getD-set-same rows i x 0 inside ∙ here)) (λ (ne : k ≢ i). getD-set-other rows i k x 0 ne ∙ before k (omega arith)) (cases-eq k i)

@@ -53,8 +53,8 @@ module _ (g : Grammar) (s : ℕ) where
       let t : ℕ → Tree = λ i. getD (r .trees) i none in
       let u : ℕ → Tree = λ i. getD (q .trees) i none in
       pigeonhole n m (λ i k. SameRelation g s (t i) (u k))
-        (λ i j k lt lt′ x y. r .different i j lt lt′ (same-trans (t i) (u k) (t j) x (same-sym (t j) (u k) y)))
-        (λ i lt. q .every (t i) (r .of-symbol i lt))
+      (λ i j k lt lt′ x y. r .different i j lt lt′ (same-trans (t i) (u k) (t j) x (same-sym (t j) (u k) y)))
+      (λ i lt. q .every (t i) (r .of-symbol i lt))
 
 pub relations-unique : (g : Grammar) (s n m : ℕ) → Relations g s n → Relations g s m → n ≡ m
 relations-unique g s n m r q = omega (arith, relations-at-most g s n m r q, relations-at-most g s m n q r)

@@ -50,7 +50,7 @@ module _ (g : Grammar) (s c : ℕ) (realised : (r : ℕ) → T (has c r) → (t 
   listed k l =
       subst (λ (t : Tree). TreeOf g s t × Code g s t (getD rs k 0)) (sym (getD-map tree-with rs k 0 none l))
       (passed-is (λ t. TreeOf g s t × Code g s t (getD rs k 0)) (has c (getD rs k 0)) (λ h. realised (getD rs k 0) h .0)
-       (λ h. (realised (getD rs k 0) h .1, realised (getD rs k 0) h .2)) (in-set k l))
+      (λ h. (realised (getD rs k 0) h .1, realised (getD rs k 0) h .2)) (in-set k l))
 
   relations-listed : Relations g s (length rs)
   relations-listed = record {
@@ -58,15 +58,17 @@ module _ (g : Grammar) (s c : ℕ) (realised : (r : ℕ) → T (has c r) → (t 
     many = length-map rs tree-with;
     of-symbol = λ k l. listed k l .0;
     different = λ j k l h same.
-      (let e : getD rs j 0 ≡ getD rs k 0 =
-            code-unique g s (getD (map tree-with rs) j none) (getD (map tree-with rs) k none) (getD rs j 0) (getD rs k 0)
-            (listed j (omega arith) .1) (listed k h .1) same in
-      omega (arith, rise j k l h));
+        (let e : getD rs j 0 ≡ getD rs k 0 =
+        code-unique g s (getD (map tree-with rs) j none) (getD (map tree-with rs) k none) (getD rs j 0) (getD rs k 0)
+        (listed j (omega arith) .1) (listed k h .1) same in
+        omega (arith, rise j k l h));
     every = λ t h.
-      (let (r, there, code) = complete-at t h in
-      let (k, l, e) = all r there in
-      (k, l,
-       same-code g s t (getD (map tree-with rs) k none) (getD rs k 0) (subst (Code g s t) (sym e) code) (listed k l .1)));
+        (let (r, there, code) = complete-at t h in
+        let (k, l, e) = all r there in (
+          k,
+          l,
+          same-code g s t (getD (map tree-with rs) k none) (getD rs k 0) (subst (Code g s t) (sym e) code) (listed k l .1),
+        ));
   }
 
 module _ (g : Grammar) (text : ℕ → List Segment) (lim : Limits g text) (masks : List ℕ) (sound : Sound g masks) where
@@ -76,9 +78,9 @@ module _ (g : Grammar) (text : ℕ → List Segment) (lim : Limits g text) (mask
         let c = getD masks s 0 in
         subst (Relations g s) (members-count 16 c (sound .below s))
         (relations-listed g s c (λ r t. sound .realised s r exists t)
-         (λ t h. (let (r, there, code, small) = complete g text lim masks closed s t exists h in (r, there, code)))
-         (members 16 c) (λ k l. members-has 16 c k l .0) (λ j k l h. members-rise 16 c j k l h)
-         (λ r t. members-all 16 c r (has-below 16 c r (sound .below s) t) t))
+        (λ t h. (let (r, there, code, small) = complete g text lim masks closed s t exists h in (r, there, code)))
+        (members 16 c) (λ k l. members-has 16 c k l .0) (λ j k l h. members-rise 16 c j k l h)
+        (λ r t. members-all 16 c r (has-below 16 c r (sound .below s) t) t))
 
     -- the number of relations of all symbols
     pub relation-count : (n : ℕ) → n ≡ sum-below (λ s. ones (getD masks s 0)) (g .symbols) → RelationCount g n
@@ -92,9 +94,11 @@ module _ (g : Grammar) (text : ℕ → List Segment) (lim : Limits g text) (mask
     own-cycle-found p s none h rooted x y w back = absurd w
     own-cycle-found p s (node n q l a b d) h rooted x y w back =
         let known = coded g text lim masks closed s n q l a b d h in
-        subst (λ r. (r < g .productions) × T (found-by g r masks .cyclic)) rooted
-        (h .0, has-found (λ o. T (o .cyclic)) cycle-seen g q masks (known .chosen-ones) (known .fits)
-         (own-cycle-is-cyclic g text lim q (h .0) (known .chosen-ones) s n l a b d h (known .codes) x y w back))
+        subst (λ r. (r < g .productions) × T (found-by g r masks .cyclic)) rooted (
+          h .0,
+          has-found (λ o. T (o .cyclic)) cycle-seen g q masks (known .chosen-ones) (known .fits)
+              (own-cycle-is-cyclic g text lim q (h .0) (known .chosen-ones) s n l a b d h (known .codes) x y w back),
+        )
 
     pub culprit-found : (p : ℕ) → Culprit g p → (p < g .productions) × T (found-by g p masks .cyclic)
     culprit-found p c = own-cycle-found p (c .symbol) (c .tree) (c .is-tree) (c .rooted) (c .from) (c .to) (c .own-rule) (c .back)

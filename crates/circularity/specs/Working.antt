@@ -41,9 +41,9 @@ abbrev pub child-row : Grammar → ℕ → Choice → ℕ → ℕ → ℕ
 child-row g p c k a =
     cond (ltb k (length (g .children p)))
     (cond (ltb a (g .inherited (child g p k))) (bits-of (arguments g p (k + 1) a))
-     (cond (ltb (a - g .inherited (child g p k)) (g .synthesized (child g p k)))
-      ((field (g .inherited (child g p k)) (chosen c k) (a - g .inherited (child g p k)) * 2 ^ (4 * (k + 1))) % 2 ^ 16)
-      0))
+    (cond (ltb (a - g .inherited (child g p k)) (g .synthesized (child g p k)))
+    ((field (g .inherited (child g p k)) (chosen c k) (a - g .inherited (child g p k)) * 2 ^ (4 * (k + 1))) % 2 ^ 16)
+    0))
     0
 
 abbrev pub row-of : Grammar → ℕ → Choice → ℕ → ℕ

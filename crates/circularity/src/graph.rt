@@ -41,7 +41,7 @@ impl Choice {
 }
 
 // Whether bit j is set.
-pub fn has(bits: u16, j: usize) -> bool
+pub(crate) fn has(bits: u16, j: usize) -> bool
     requires { ⌜ j < 16 ⌝ }
     ensures { λ r. ⌜ r ≡ has-bit bits j ⌝ }
 {
@@ -75,7 +75,13 @@ fn parent_edges<L: Language>(language: &L, production: u8, attribute: u8) -> u16
         return 0;
     }
     if attribute - inherited < language.synthesized(symbol) {
-        return argument_bits(language.arguments(production, Occurrence { place: 0, attribute }));
+        return argument_bits(language.arguments(
+            production,
+            Occurrence {
+                place: 0,
+                attribute,
+            },
+        ));
     }
     0
 }
@@ -89,7 +95,13 @@ fn relation_field(relation: u16, h: u8, j: u8) -> u16
     (relation >> (h * j)) % (1 << h)
 }
 
-fn child_edges<L: Language>(language: &L, production: u8, choice: Choice, k: u8, attribute: u8) -> u16
+fn child_edges<L: Language>(
+    language: &L,
+    production: u8,
+    choice: Choice,
+    k: u8,
+    attribute: u8,
+) -> u16
     requires { ⌜ production < grammar (now language) .productions ⌝ ∗ ⌜ k < 3 ⌝ ∗ ⌜ attribute < 4 ⌝ }
     ensures { λ r. ⌜ r ≡ child-row (grammar (now (language .entry))) production choice k attribute ⌝ }
 {
@@ -100,10 +112,17 @@ fn child_edges<L: Language>(language: &L, production: u8, choice: Choice, k: u8,
     let symbol = children[k as usize];
     let inherited = language.inherited(symbol);
     if attribute < inherited {
-        return argument_bits(language.arguments(production, Occurrence { place: k + 1, attribute }));
+        return argument_bits(language.arguments(
+            production,
+            Occurrence {
+                place: k + 1,
+                attribute,
+            },
+        ));
     }
     if attribute - inherited < language.synthesized(symbol) {
-        return relation_field(choice.relation(k), inherited, attribute - inherited) << (4 * (k + 1));
+        return relation_field(choice.relation(k), inherited, attribute - inherited)
+            << (4 * (k + 1));
     }
     0
 }
@@ -181,14 +200,18 @@ fn own_relation(rows: &[u16], h: u8, s: u8) -> u16
 }
 
 // What one choice of the children's relations gives.
-pub fn work_out<L: Language>(language: &L, production: u8, choice: Choice) -> Outcome
+pub(crate) fn work_out<L: Language>(language: &L, production: u8, choice: Choice) -> Outcome
     requires { ⌜ production < grammar (now language) .productions ⌝ }
     ensures { λ r. ⌜ r ≡ outcome-of (grammar (now (language .entry))) production choice ⌝ }
 {
     let mut rows = local_rows(language, production, choice);
     close(&mut rows);
     let symbol = language.symbol(production);
-    let relation = own_relation(&rows, language.inherited(symbol), language.synthesized(symbol));
+    let relation = own_relation(
+        &rows,
+        language.inherited(symbol),
+        language.synthesized(symbol),
+    );
     Outcome {
         relations: 1 << relation,
         cyclic: has_cycle(&rows),

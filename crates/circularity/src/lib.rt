@@ -1,6 +1,7 @@
 // Knuth's test of circularity, for every language behind the interface.
 ghost use Prim.Native.Nat.{ℕ};
 ghost use Rattle.circularity.specs.Verdict.{Verdict};
+
 pub mod fault;
 mod graph;
 mod relations;

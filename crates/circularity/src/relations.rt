@@ -40,21 +40,41 @@ fn choices<L: Language>(language: &L, production: u8, masks: &[u16], k: u8) -> u
 }
 
 // What all choices of the third child's relation give, with the first and the second fixed.
-fn over_third<L: Language>(language: &L, production: u8, first: u16, second: u16, thirds: u16) -> Outcome
+fn over_third<L: Language>(
+    language: &L,
+    production: u8,
+    first: u16,
+    second: u16,
+    thirds: u16,
+) -> Outcome
     requires { ⌜ production < grammar (now language) .productions ⌝ }
     ensures { λ r. ⌜ r ≡ gathered (λ z. outcome-of (grammar (now (language .entry))) production (choice first second z)) thirds 16 ⌝ }
 {
     let mut found = Outcome::NOTHING;
     for third in 0..16u16 {
         if has(thirds, third as usize) {
-            found = found.join(work_out(language, production, Choice { first, second, third }));
+            found = found.join(work_out(
+                language,
+                production,
+                Choice {
+                    first,
+                    second,
+                    third,
+                },
+            ));
         }
     }
     found
 }
 
 // What all choices of the second and the third child's relations give, with the first fixed.
-fn over_second<L: Language>(language: &L, production: u8, first: u16, seconds: u16, thirds: u16) -> Outcome
+fn over_second<L: Language>(
+    language: &L,
+    production: u8,
+    first: u16,
+    seconds: u16,
+    thirds: u16,
+) -> Outcome
     requires { ⌜ production < grammar (now language) .productions ⌝ }
     ensures { λ r. ⌜ r ≡ gathered (λ y. gathered (λ z. outcome-of (grammar (now (language .entry))) production (choice first y z)) thirds 16) seconds 16 ⌝ }
 {
@@ -68,7 +88,13 @@ fn over_second<L: Language>(language: &L, production: u8, first: u16, seconds: u
 }
 
 // What all choices of the children's relations give.
-fn over_first<L: Language>(language: &L, production: u8, firsts: u16, seconds: u16, thirds: u16) -> Outcome
+fn over_first<L: Language>(
+    language: &L,
+    production: u8,
+    firsts: u16,
+    seconds: u16,
+    thirds: u16,
+) -> Outcome
     requires { ⌜ production < grammar (now language) .productions ⌝ }
     ensures { λ r. ⌜ r ≡ gathered (λ x. gathered (λ y. gathered (λ z. outcome-of (grammar (now (language .entry))) production (choice x y z)) thirds 16) seconds 16) firsts 16 ⌝ }
 {
@@ -82,7 +108,7 @@ fn over_first<L: Language>(language: &L, production: u8, firsts: u16, seconds: u
 }
 
 // What a production gives with the relations found so far.
-pub fn try_production<L: Language>(language: &L, production: u8, masks: &[u16]) -> Outcome
+pub(crate) fn try_production<L: Language>(language: &L, production: u8, masks: &[u16]) -> Outcome
     requires { ⌜ production < grammar (now language) .productions ⌝ ∗ ⌜ length (now masks) ≡ 16 ⌝ }
     ensures { λ r. ⌜ r ≡ found-by (grammar (now (language .entry))) production (now (masks .entry)) ⌝ }
 {
@@ -116,7 +142,7 @@ fn total(masks: &[u16]) -> u32
 }
 
 // The relations of each symbol's trees.
-pub fn saturate<L: Language>(language: &L) -> [u16; 16]
+pub(crate) fn saturate<L: Language>(language: &L) -> [u16; 16]
     ensures many { λ r. ⌜ length r ≡ 16 ⌝ }
     ensures saturated { λ r. ⌜ Saturated (grammar (now (language .entry))) r ⌝ }
 {
@@ -131,7 +157,7 @@ pub fn saturate<L: Language>(language: &L) -> [u16; 16]
 }
 
 // How many relations the sets of all symbols have.
-pub fn count<L: Language>(language: &L, masks: &[u16]) -> u16
+pub(crate) fn count<L: Language>(language: &L, masks: &[u16]) -> u16
     requires { ⌜ length (now masks) ≡ 16 ⌝ }
     ensures { λ r. ⌜ r ≡ counted (now (masks .entry)) (grammar (now (language .entry)) .symbols) ⌝ }
 {

@@ -16,7 +16,7 @@ fn numbers(a: Quantity, b: Quantity) -> Result<(i32, i32), Trouble>
     }
 }
 
-pub fn sum(a: Quantity, b: Quantity) -> Quantity
+pub(crate) fn sum(a: Quantity, b: Quantity) -> Quantity
     ensures { λ r. ⌜ r .reading ≡ sum-of (a .reading) (b .reading) ⌝ }
 {
     match numbers(a, b) {
@@ -25,7 +25,7 @@ pub fn sum(a: Quantity, b: Quantity) -> Quantity
     }
 }
 
-pub fn difference(a: Quantity, b: Quantity) -> Quantity
+pub(crate) fn difference(a: Quantity, b: Quantity) -> Quantity
     ensures { λ r. ⌜ r .reading ≡ difference-of (a .reading) (b .reading) ⌝ }
 {
     match numbers(a, b) {
@@ -34,7 +34,7 @@ pub fn difference(a: Quantity, b: Quantity) -> Quantity
     }
 }
 
-pub fn product(a: Quantity, b: Quantity) -> Quantity
+pub(crate) fn product(a: Quantity, b: Quantity) -> Quantity
     ensures { λ r. ⌜ r .reading ≡ product-of (a .reading) (b .reading) ⌝ }
 {
     match numbers(a, b) {
@@ -44,7 +44,7 @@ pub fn product(a: Quantity, b: Quantity) -> Quantity
 }
 
 // The fraction is dropped toward zero.
-pub fn quotient(a: Quantity, b: Quantity) -> Quantity
+pub(crate) fn quotient(a: Quantity, b: Quantity) -> Quantity
     ensures { λ r. ⌜ r .reading ≡ quotient-of (a .reading) (b .reading) ⌝ }
 {
     match numbers(a, b) {
@@ -59,7 +59,7 @@ pub fn quotient(a: Quantity, b: Quantity) -> Quantity
     }
 }
 
-pub fn choose(a: Quantity, b: Quantity, c: Quantity) -> Quantity
+pub(crate) fn choose(a: Quantity, b: Quantity, c: Quantity) -> Quantity
     ensures { λ r. ⌜ r .reading ≡ choice-of (a .reading) (b .reading) (c .reading) ⌝ }
 {
     match a.reading() {

@@ -10,6 +10,7 @@ ghost use Rattle.grammar.specs.Values.{meaning-at, meanings};
 // exactly when their meanings are equal. A value lies in memory as a row, a plain type with no invariant: every row reads as some value.
 pub trait Figure: Copy {
     type Meaning;
+
     type Row: Copy;
 
     // what a value means

@@ -30,7 +30,9 @@ pub enum Piece {
 // nothing, and changes nothing. `limits` is the proof that the table keeps the limits: without it there is no language.
 pub trait Language {
     type Meaning;
+
     type Row: Copy;
+
     type Value: Figure<Meaning = Self::Meaning, Row = Self::Row> + Drop;
 
     // the fixed table
@@ -68,7 +70,13 @@ pub trait Language {
     fn arguments(&self, production: u8, target: Occurrence) -> &[Occurrence]
         ensures { λ r. ⌜ now r ≡ arguments (grammar (now (self .entry))) production (target .place) (target .attribute) ⌝ };
 
-    fn evaluate(&self, production: u8, target: Occurrence, literal: i32, arguments: &Arguments<'_, Self::Row>) -> Self::Value
+    fn evaluate(
+        &self,
+        production: u8,
+        target: Occurrence,
+        literal: i32,
+        arguments: &Arguments<'_, Self::Row>,
+    ) -> Self::Value
         ensures { λ r. ⌜ Value·Figure .means r ≡ rule (now (self .entry)) production (target .place) (target .attribute) literal (meanings (Value·Figure .means) (Value·Figure .reads) (Value·Figure .nothing) (now (now (arguments .entry) .rows)) (now (now (arguments .entry) .at))) ⌝ };
 
     fn pieces(&self, production: u8) -> &[Piece]

@@ -8,21 +8,21 @@ use crate::figure::PlanRow;
 use crate::figure::PlanType;
 use grammar::Arguments;
 
-pub fn read_scope(arguments: &Arguments<'_, PlanRow>, k: usize) -> u64
+pub(crate) fn read_scope(arguments: &Arguments<'_, PlanRow>, k: usize) -> u64
     ensures { λ r. ⌜ r ≡ scope-at (taken (now (arguments .entry))) k ⌝ }
 {
     let figure: PlanFigure = arguments.value(k);
     figure.scope()
 }
 
-pub fn read_type(arguments: &Arguments<'_, PlanRow>, k: usize) -> PlanType
+pub(crate) fn read_type(arguments: &Arguments<'_, PlanRow>, k: usize) -> PlanType
     ensures { λ r. ⌜ r ≡ type-at (taken (now (arguments .entry))) k ⌝ }
 {
     let figure: PlanFigure = arguments.value(k);
     figure.type_of()
 }
 
-pub fn read_count(arguments: &Arguments<'_, PlanRow>, k: usize) -> u16
+pub(crate) fn read_count(arguments: &Arguments<'_, PlanRow>, k: usize) -> u16
     ensures { λ r. ⌜ r ≡ count-at (taken (now (arguments .entry))) k ⌝ }
 {
     let figure: PlanFigure = arguments.value(k);

@@ -1,11 +1,11 @@
 // The language of session plans, and the altered plan, behind the interface of every language.
 pub mod altered;
-pub mod arguments;
+mod arguments;
 pub mod figure;
 pub mod language;
 mod numbers;
-pub mod rules;
-pub mod scope;
+mod rules;
+mod scope;
 pub mod theorems;
 
 pub use altered::AlteredPlan;

@@ -11,35 +11,35 @@ use crate::scope::entry_of;
 const NO_NAME: u32 = 128;
 
 // The number that a literal stands for.
-pub fn number_of(literal: i32) -> u32
+pub(crate) fn number_of(literal: i32) -> u32
     ensures { λ r. ⌜ r ≡ literal-number literal ⌝ }
 {
     if literal < 0 { NO_NAME } else { literal as u32 }
 }
 
 // The sum of two counts, at most 65,535.
-pub fn sum(first: u16, second: u16) -> u16
+pub(crate) fn sum(first: u16, second: u16) -> u16
     ensures { λ r. ⌜ r ≡ capped (first + second) ⌝ }
 {
     first.saturating_add(second)
 }
 
 // The number of the type that a declaration's literal gives to its name.
-pub fn type_number(literal: i32) -> u8
+pub(crate) fn type_number(literal: i32) -> u8
     ensures { λ r. ⌜ r ≡ declared-type literal ⌝ ∗ ⌜ r < 4 ⌝ }
 {
     (number_of(literal) % 4) as u8
 }
 
 // The scope after a declaration.
-pub fn scope_after(scope: u64, literal: i32) -> u64
+pub(crate) fn scope_after(scope: u64, literal: i32) -> u64
     ensures { λ r. ⌜ r ≡ declared scope (declared-name literal) (declared-type literal) ⌝ }
 {
     declare(scope, number_of(literal) / 4, type_number(literal))
 }
 
 // How bad a declaration is: as its term, and one more where the term's type is known and another than declared.
-pub fn declaration_bad(found: PlanType, term_bad: u16, literal: i32) -> u16
+pub(crate) fn declaration_bad(found: PlanType, term_bad: u16, literal: i32) -> u16
     ensures { λ r. ⌜ r ≡ capped («term_bad» + mismatch found (declared-type literal)) ⌝ }
 {
     let mismatched = match found {
@@ -51,14 +51,14 @@ pub fn declaration_bad(found: PlanType, term_bad: u16, literal: i32) -> u16
 }
 
 // The type that a scope has for the name that a literal is.
-pub fn type_of_name(scope: u64, literal: i32) -> PlanType
+pub(crate) fn type_of_name(scope: u64, literal: i32) -> PlanType
     ensures { λ r. ⌜ r ≡ type-of-name scope literal ⌝ }
 {
     PlanType::of_number(entry_of(scope, number_of(literal)))
 }
 
 // How bad a name is that has this type.
-pub fn name_bad(found: PlanType) -> u16
+pub(crate) fn name_bad(found: PlanType) -> u16
     ensures { λ r. ⌜ r ≡ unknowns found ⌝ }
 {
     match found {
@@ -80,7 +80,7 @@ fn operand_bad(found: PlanType) -> u16
 }
 
 // How bad a comparison is: as its two terms, and one more for each that is a truth.
-pub fn comparison_bad(first: PlanType, second: PlanType, first_bad: u16, second_bad: u16) -> u16
+pub(crate) fn comparison_bad(first: PlanType, second: PlanType, first_bad: u16, second_bad: u16) -> u16
     ensures { λ r. ⌜ r ≡ capped («first_bad» + «second_bad» + truths first + truths second) ⌝ }
 {
     let terms = sum(first_bad, second_bad);

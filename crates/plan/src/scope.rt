@@ -6,7 +6,7 @@ ghost use Rattle.plan.specs.Scope.{entry, declared, entry-declared, overlaid, 
 const NAMES: u32 = 32;
 
 // The entry of a name. There is nothing to know of a name past the last.
-pub fn entry_of(scope: u64, name: u32) -> u8
+pub(crate) fn entry_of(scope: u64, name: u32) -> u8
     ensures { λ r. ⌜ r ≡ entry scope name ⌝ }
 {
     if name >= NAMES {
@@ -16,7 +16,7 @@ pub fn entry_of(scope: u64, name: u32) -> u8
 }
 
 // The scope after a name is declared with the type of that number.
-pub fn declare(scope: u64, name: u32, type_number: u8) -> u64
+pub(crate) fn declare(scope: u64, name: u32, type_number: u8) -> u64
     requires { ⌜ «type_number» < 4 ⌝ }
     ensures { λ r. ⌜ r ≡ declared scope name «type_number» ⌝ }
 {
@@ -43,7 +43,7 @@ fn entry_after(scope: u64, name: u32, type_number: u8, k: u32) -> u8
 }
 
 // The inner scope laid over the outer one.
-pub fn overlay(inner: u64, outer: u64) -> u64
+pub(crate) fn overlay(inner: u64, outer: u64) -> u64
     ensures { λ r. ⌜ r ≡ overlaid inner outer ⌝ }
 {
     let mut result = 0;

@@ -14,12 +14,12 @@ loop-v-again g c =
     let gr = g .L·Language .grammar (c .args .language .now) in
     let v = c .loop-v .v in
     let here : c .if-v-lt4 .rows ≡ row-of gr (c .args .production) (c .args .choice) v =
-        elim (c .if-v-lt4 .came) [
-          then-v-lt4 w ↦ w .rows-is ∙ w .parent-edges .ensures ∙ sym (row-of-parent gr (c .args .production) (c .args .choice) v (w .if-v-lt4 .taken))
-        | else-v-lt4 w ↦ w .rows-is ∙ w .child-edges .ensures ∙ sym (row-of-child gr (c .args .production) (c .args .choice) v (w .if-v-lt4 .left))
-        ] in
-    ( simp length-set (c .loop-v .inv .0)
-    , written-more (row-of gr (c .args .production) (c .args .choice)) (c .loop-v .rows) v (c .if-v-lt4 .rows) (omega arith) (c .loop-v .inv .1) here
+    elim (c .if-v-lt4 .came) [
+      | then-v-lt4 w ↦ w .rows-is ∙ w .parent-edges .ensures ∙ sym (row-of-parent gr (c .args .production) (c .args .choice) v (w .if-v-lt4 .taken))
+      | else-v-lt4 w ↦ w .rows-is ∙ w .child-edges .ensures ∙ sym (row-of-child gr (c .args .production) (c .args .choice) v (w .if-v-lt4 .left))
+    ] in (
+      simp length-set (c .loop-v .inv .0),
+      written-more (row-of gr (c .args .production) (c .args .choice)) (c .loop-v .rows) v (c .if-v-lt4 .rows) (omega arith) (c .loop-v .inv .1) here,
     )
 
 pub returns : need.returns

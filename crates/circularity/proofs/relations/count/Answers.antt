@@ -16,7 +16,7 @@ add-count g c =
 
 pub loop-symbol-again : need.loop-symbol-again
 loop-symbol-again g c =
-    let few : ones (getD (c .args .masks .now) (c .loop-symbol .symbol) 0) ≤ 16 = ones-le 16 _ (c .typed .masks (c .loop-symbol .symbol) .fits) in
-    ( rw (add-one (c .loop-symbol .symbol)) (ap (λ n. n + ones (getD (c .args .masks .now) (c .loop-symbol .symbol) 0)) (c .loop-symbol .inv .0))
-    , omega arith
+    let few : ones (getD (c .args .masks .now) (c .loop-symbol .symbol) 0) ≤ 16 = ones-le 16 _ (c .typed .masks (c .loop-symbol .symbol) .fits) in (
+      rw (add-one (c .loop-symbol .symbol)) (ap (λ n. n + ones (getD (c .args .masks .now) (c .loop-symbol .symbol) 0)) (c .loop-symbol .inv .0)),
+      omega arith,
     )

@@ -8,12 +8,12 @@ use Rattle.circularity.proofs.relations.over_second.Needs.{then-has, else-has}
 pub loop-second-again : need.loop-second-again
 loop-second-again g c =
     elim (c .if-has .came) [
-      then-has w ↦ gathered-yes (λ y. gathered (λ z. outcome-of (g .L·Language .grammar (c .args .language .now)) (c .args .production) (choice (c .args .first) y z)) (c .args .thirds) 16)
-        (c .args .seconds) (c .loop-second .second) (c .loop-second .found) (c .loop-second .inv)
-        (sym (c .has .ensures) ∙ w .if-has .taken) (w .over-third .result) (c .if-has .found) (w .over-third .ensures) (w .found-is ∙ w .join-found .ensures)
-    | else-has w ↦ gathered-no (λ y. gathered (λ z. outcome-of (g .L·Language .grammar (c .args .language .now)) (c .args .production) (choice (c .args .first) y z)) (c .args .thirds) 16)
-        (c .args .seconds) (c .loop-second .second) (c .loop-second .found) (c .loop-second .inv)
-        (sym (c .has .ensures) ∙ w .if-has .left) (c .if-has .found) (w .found-is)
+      | then-has w ↦ gathered-yes (λ y. gathered (λ z. outcome-of (g .L·Language .grammar (c .args .language .now)) (c .args .production) (choice (c .args .first) y z)) (c .args .thirds) 16)
+          (c .args .seconds) (c .loop-second .second) (c .loop-second .found) (c .loop-second .inv)
+          (sym (c .has .ensures) ∙ w .if-has .taken) (w .over-third .result) (c .if-has .found) (w .over-third .ensures) (w .found-is ∙ w .join-found .ensures)
+      | else-has w ↦ gathered-no (λ y. gathered (λ z. outcome-of (g .L·Language .grammar (c .args .language .now)) (c .args .production) (choice (c .args .first) y z)) (c .args .thirds) 16)
+          (c .args .seconds) (c .loop-second .second) (c .loop-second .found) (c .loop-second .inv)
+          (sym (c .has .ensures) ∙ w .if-has .left) (c .if-has .found) (w .found-is)
     ]
 
 pub returns : need.returns
