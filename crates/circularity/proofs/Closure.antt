@@ -11,6 +11,7 @@ use lib.ListN.{length, getD}
 use Rattle.std.proofs.shelf.Lists.{getD-map, getD-past, length-map}
 use Rattle.std.proofs.shelf.Tests.{cases-lt}
 use Rattle.grammar.specs.Dependence.{Over, one, then}
+use Rattle.circularity.proofs.Local.{over-trans}
 use Rattle.circularity.specs.Bits.{has, through, closed-below}
 use Rattle.circularity.proofs.Bits.{T-false, has-zero, has-below, or-has, or-has-left, or-has-right}
 
@@ -117,16 +118,12 @@ pub closed-rows : (m : ℕ) (rows : List ℕ) → Rows rows → Rows (closed-bel
 closed-rows zero rows r = r
 closed-rows (suc m) rows r = through-rows m (closed-below m rows) (closed-rows m rows r)
 
-pub over-join : {A : Type 0} {R : A → A → Type 0} {x y z : A} → Over R x y → Over R y z → Over R x z
-over-join p (one s) = then p s
-over-join p (then q s) = then (over-join p q) s
-
 sound-below : (m : ℕ) (rows : List ℕ) → Rows rows → (v w : ℕ) → Edge (closed-below m rows) v w → Over (Edge rows) v w
 sound-below zero rows r v w e = one e
 sound-below (suc m) rows r v w e =
     elim (through-sound m (closed-below m rows) (closed-rows m rows r) v w e) [
       | inl a ↦ sound-below m rows r v w a
-      | inr a ↦ over-join (sound-below m rows r v m (a .0)) (sound-below m rows r m w (a .1))
+      | inr a ↦ over-trans (sound-below m rows r v m (a .0)) (sound-below m rows r m w (a .1))
     ]
 
 keeps-below : (m : ℕ) (rows : List ℕ) → Rows rows → (v w : ℕ) → Edge rows v w → Edge (closed-below m rows) v w

@@ -20,9 +20,9 @@ use Rattle.grammar.specs.Circularity.{Related, SameRelation}
 use Rattle.circularity.specs.declared.graph.Choice.{Choice}
 use Rattle.circularity.specs.Bits.{has, closed-below, field}
 use Rattle.circularity.specs.Working.{chosen, rows-of, cyclic-below, relation-in, outcome-of}
-use Rattle.circularity.proofs.Small.{power-small}
+use Rattle.circularity.proofs.Small.{relation-inside, relation-below, own-attributes}
 use Rattle.circularity.proofs.Bits.{T-along, T-back, T-either, T-left, T-right, bits-same, has-mod}
-use Rattle.circularity.proofs.Fields.{field-below, field-pack, pack-below, fields-same, few-pairs}
+use Rattle.circularity.proofs.Fields.{field-below, field-pack, fields-same, few-pairs}
 use Rattle.circularity.proofs.Closure.{Edge, closure-sound, closure-complete}
 use Rattle.circularity.proofs.Local.{LocalStep, Exact, Star, first-step}
 use Rattle.circularity.proofs.TreePaths.{local-to-tree, tree-to-local, own-cycle-to-local, local-cycle-to-own}
@@ -76,8 +76,8 @@ module _ (h s : ℕ) (few : h + s ≤ 4) (rows : List ℕ) where
   room : h * s ≤ 16
   room = omega (arith, few-pairs h s few)
 
-  pub relation-below : relation-in rows h s < 2 ^ (h * s)
-  relation-below = pack-below h s (λ j. getD rows (h + j) 0 % 2 ^ h) (low-small h rows) room
+  pub relation-within : relation-in rows h s < 2 ^ (h * s)
+  relation-within = relation-inside rows h s few
 
   -- the relation has a pair exactly where the graph has the edge
   pub relation-has : (i j : ℕ) → i < h → j < s → has (field h (relation-in rows h s) j) i ≡ has (getD rows (h + j) 0) i
@@ -111,13 +111,10 @@ some-cyclic rows (suc n) v l e =
 
 module _ (g : Grammar) (text : ℕ → List Segment) (lim : Limits g text) (p : ℕ) (exists : p < g .productions) (c : Choice) where
   pub own-few : attributes g (g .symbol p) ≤ 4
-  own-few = lim .few-attributes (g .symbol p) (lim .each p exists .symbol-exists)
+  own-few = own-attributes g text lim p exists
 
   pub relation-small : relation-of g p c < 16
-  relation-small =
-      let h = g .inherited (g .symbol p) in
-      let s = g .synthesized (g .symbol p) in
-      omega (arith, relation-below h s own-few (closed-below 16 (rows-of g p c)), power-small (h * s) (few-pairs h s own-few))
+  relation-small = relation-below (closed-below 16 (rows-of g p c)) (g .inherited (g .symbol p)) (g .synthesized (g .symbol p)) own-few
 
   -- the figures of the vertices below 4 are the root's own
   own-place : (v : ℕ) → v < 4 → place v ≡ instance [] v
@@ -154,7 +151,7 @@ module _ (g : Grammar) (text : ℕ → List Segment) (lim : Limits g text) (p : 
         let h = g .inherited (g .symbol p) in
         let rows = closed-below 16 (rows-of g p c) in
         record {
-          below = relation-below h (g .synthesized (g .symbol p)) own-few rows;
+          below = relation-within h (g .synthesized (g .symbol p)) own-few rows;
           sound = λ i j k m t.
               let edge : Edge rows (h + j) i =
               T-along (has (field h (relation-of g p c) j) i) (has (getD rows (h + j) 0) i)

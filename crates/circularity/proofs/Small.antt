@@ -17,10 +17,12 @@ use Rattle.circularity.proofs.Fields.{pack-below, few-pairs}
 pub power-small : (h : ℕ) → h ≤ 4 → 2 ^ h ≤ 16
 power-small h le = pow-mono le
 
+pub relation-inside : (rows : List ℕ) (h s : ℕ) → h + s ≤ 4 → relation-in rows h s < 2 ^ (h * s)
+relation-inside rows h s few =
+    pack-below h s (λ j. getD rows (h + j) 0 % 2 ^ h) (λ j. mod-below (getD rows (h + j) 0) (2 ^ h) (pow-pos h)) (omega (arith, few-pairs h s few))
+
 pub relation-below : (rows : List ℕ) (h s : ℕ) → h + s ≤ 4 → relation-in rows h s < 16
-relation-below rows h s few =
-    let pairs : h * s ≤ 4 = few-pairs h s few in
-    omega (arith, pack-below h s (λ j. getD rows (h + j) 0 % 2 ^ h) (λ j. mod-below (getD rows (h + j) 0) (2 ^ h) (pow-pos h)) (omega arith), power-small (h * s) pairs)
+relation-below rows h s few = omega (arith, relation-inside rows h s few, power-small (h * s) (few-pairs h s few))
 
 pub own-attributes : (g : Grammar) (text : ℕ → List Segment) → Limits g text → (p : ℕ) → p < g .productions → attributes g (g .symbol p) ≤ 4
 own-attributes g text lim p h = lim .few-attributes (g .symbol p) (lim .each p h .symbol-exists)
