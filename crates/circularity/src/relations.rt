@@ -53,15 +53,12 @@ fn over_third<L: Language>(
     let mut found = Outcome::NOTHING;
     for third in 0..16u16 {
         if has(thirds, third as usize) {
-            found = found.join(work_out(
-                language,
-                production,
-                Choice {
-                    first,
-                    second,
-                    third,
-                },
-            ));
+            let choice = Choice {
+                first,
+                second,
+                third,
+            };
+            found = found.join(work_out(language, production, choice));
         }
     }
     found

@@ -80,7 +80,12 @@ fn operand_bad(found: PlanType) -> u16
 }
 
 // How bad a comparison is: as its two terms, and one more for each that is a truth.
-pub(crate) fn comparison_bad(first: PlanType, second: PlanType, first_bad: u16, second_bad: u16) -> u16
+pub(crate) fn comparison_bad(
+    first: PlanType,
+    second: PlanType,
+    first_bad: u16,
+    second_bad: u16,
+) -> u16
     ensures { λ r. ⌜ r ≡ capped («first_bad» + «second_bad» + truths first + truths second) ⌝ }
 {
     let terms = sum(first_bad, second_bad);
