@@ -1,3 +1,4 @@
 pub mod Bits
 pub mod Faults
 pub mod Verdict
+pub mod Working

@@ -1,0 +1,7 @@
+use borrow.Author.Needs.{needs}
+use Rattle.formula.proofs.Computing.{difference-is}
+use Rattle.formula.proofs.rules.difference.Needs as need
+
+pub returns-in-Ok : need.returns-in-Ok
+returns-in-Ok c =
+    difference-is (c .args .a .reading) (c .args .b .reading) (c .in-Ok .x) (c .in-Ok .y) (c .in-Ok .ensures tt) (search needs) (search needs) (c .result .result .reading) (c .result .ensures)
