@@ -5,7 +5,7 @@ ghost use Rattle.editor.specs.Session.{Chosen, TestedIn, Answered};
 use formula::Formula;
 use formula::FormulaLanguage;
 use plan::Plan;
-use plan::language::PlanLanguage;
+use plan::PlanLanguage;
 use script::answer::Answer;
 use script::call::Call;
 use script::call::LanguageName;
