@@ -8,7 +8,7 @@ use Rattle.script.specs.declared.call.LanguageName.{LanguageName}
 use Rattle.script.specs.declared.call.LanguageName.the-variants.{Formula, Plan, Altered}
 use Rattle.script.specs.declared.call.Reason.the-variants.{UnknownLanguage, NoLanguage, LanguageChosen}
 use Rattle.script.specs.Testing.{Tested}
-use Rattle.formula.specs.Table.{table as formula-grammar}
+use Rattle.formula.specs.Table.{formula-grammar}
 use Rattle.plan.specs.Table.{plan-grammar}
 use Rattle.editor.specs.declared.session.Session.{Session}
 use Rattle.editor.specs.declared.session.Session.the-variants.{Unchosen, OnFormula, OnPlan}
