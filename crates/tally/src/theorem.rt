@@ -1,0 +1,19 @@
+// What the language of tallies is: its members, and those of its figure, are the definitions of specs/. The function does nothing; its
+// contract is the theorem.
+ghost use mathlib.Core.Path.{_≡_};
+ghost use Rattle.tally.specs.contracts.figure.SumFigure.the-impl.{ghosts as figure};
+ghost use Rattle.tally.specs.contracts.language.TallyLanguage.the-impl.{ghosts as members};
+ghost use Rattle.tally.specs.Figures.{value-of, read};
+ghost use Rattle.tally.specs.Table.{tally-grammar, tally-rule, tally-text};
+use crate::figure::SumFigure;
+use crate::language::Tally;
+use crate::language::TallyLanguage;
+
+pub fn tally_is_as_specified(tally: &Tally)
+    ensures table { λ _. ⌜ members .grammar (now (tally .entry)) ≡ tally-grammar ⌝ }
+    ensures functions { λ _. ⌜ members .rule (now (tally .entry)) ≡ tally-rule ⌝ }
+    ensures texts { λ _. ⌜ members .text (now (tally .entry)) ≡ tally-text ⌝ }
+    ensures means { λ _. ⌜ figure .means ≡ value-of ⌝ }
+    ensures reads { λ _. ⌜ figure .reads ≡ read ⌝ }
+    ensures blank { λ _. ⌜ figure .nothing ≡ 0 ⌝ }
+{}
