@@ -56,25 +56,25 @@ the-productions =
     }
     -- 1 the hole of items counts nothing
     ∷ record {
-        symbol = item;
-        children = [];
-        text = bytes (codes "_") ∷ [];
-        rules = by (after 0) Same (before 0 ∷ []) ∷ [];
-      }
+      symbol = item;
+      children = [];
+      text = bytes (codes "_") ∷ [];
+      rules = by (after 0) Same (before 0 ∷ []) ∷ [];
+    }
     -- 2 amount: its literal is counted
     ∷ record {
-        symbol = item;
-        children = [];
-        text = literal ∷ [];
-        rules = by (after 0) PlusLiteral (before 0 ∷ []) ∷ [];
-      }
+      symbol = item;
+      children = [];
+      text = literal ∷ [];
+      rules = by (after 0) PlusLiteral (before 0 ∷ []) ∷ [];
+    }
     -- 3 pair: one item, then another
     ∷ record {
-        symbol = item;
-        children = item ∷ item ∷ [];
-        text = bytes (codes "(") ∷ child 1 ∷ bytes (codes " ") ∷ child 2 ∷ bytes (codes ")") ∷ [];
-        rules = by (before 1) Same (before 0 ∷ []) ∷ by (before 2) Same (after 1 ∷ []) ∷ by (after 0) Same (after 2 ∷ []) ∷ [];
-      }
+      symbol = item;
+      children = item ∷ item ∷ [];
+      text = bytes (codes "(") ∷ child 1 ∷ bytes (codes " ") ∷ child 2 ∷ bytes (codes ")") ∷ [];
+      rules = by (before 1) Same (before 0 ∷ []) ∷ by (before 2) Same (after 1 ∷ []) ∷ by (after 0) Same (after 2 ∷ []) ∷ [];
+    }
     ∷ []
 
 abbrev pub production : ℕ → Production

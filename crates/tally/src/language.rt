@@ -1,6 +1,6 @@
 // The language of tallies: the table's answers, the rules, and the texts.
 ghost use mathlib.Core.Path.{_≡_};
-ghost use Rattle.tally.specs.Table.{tally-grammar, operation-of, tally-rule, tally-text, to-999};
+ghost use Rattle.tally.specs.Table.{tally-grammar, operation-of, tally-rule, tally-text};
 ghost use Rattle.tally.specs.Keeping.{tally-limits};
 use crate::figure::SumFigure;
 use crate::operation::Operation;
@@ -54,13 +54,6 @@ fn operation(production: u8, target: Occurrence) -> Operation
         (PAIR, 0, 1) => Operation::Same,
         _ => Operation::Nothing,
     }
-}
-
-// Whether a literal is an amount.
-fn is_amount(literal: i32) -> bool
-    ensures { λ r. ⌜ r ≡ to-999 literal ⌝ }
-{
-    0 <= literal && literal <= 999
 }
 
 pub impl Language for Tally as TallyLanguage {
@@ -117,7 +110,7 @@ pub impl Language for Tally as TallyLanguage {
 
     fn accepts(&self, production: u8, literal: i32) -> bool {
         match production {
-            AMOUNT => is_amount(literal),
+            AMOUNT => 0 <= literal && literal <= 999,
             _ => literal == 0,
         }
     }
