@@ -7,9 +7,7 @@ ghost use Rattle.tally.specs.contracts.figure.SumFigure.the-impl.{ghosts as fi
 ghost use Rattle.tally.specs.contracts.language.TallyLanguage.the-impl.{ghosts as members};
 ghost use Rattle.tally.specs.Figures.{value-of, read};
 ghost use Rattle.tally.specs.Table.{tally-grammar, tally-rule, tally-text};
-use crate::figure::SumFigure;
 use crate::language::Tally;
-use crate::language::TallyLanguage;
 
 pub fn tally_is_as_specified(tally: &Tally)
     ensures table { λ _. ⌜ members .grammar (now (tally .entry)) ≡ tally-grammar ⌝ }
