@@ -1,0 +1,5 @@
+pub mod Range
+pub mod Figures
+pub mod Operations
+pub mod Table
+pub mod Keeping
