@@ -1,0 +1,3 @@
+pub mod Nodes
+pub mod Climbing
+pub mod Sheets

@@ -1,0 +1,5 @@
+// Tables of nodes: their records, when they form a sheet, and which nodes are on it.
+pub mod node;
+
+pub use node::NONE;
+pub use node::Node;
