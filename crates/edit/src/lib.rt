@@ -1,0 +1,7 @@
+// The work of the edits on records and rows.
+ghost use Prim.Native.Nat.{ℕ};
+ghost use Rattle.edit.specs.Edits.{Inserted, Retyped, CutOut, Pasted, Exchanged};
+
+pub fn nothing() -> u8 {
+    0
+}
