@@ -48,7 +48,7 @@ pub(crate) fn has(bits: u16, j: usize) -> bool
     (bits >> j) % 2 == 1
 }
 
-// The vertex of an occurrence.
+// The vertex of an occurrence. Places and attributes of a language are below 4.
 fn vertex(o: Occurrence) -> u32
     ensures value { λ r. ⌜ r ≡ vertex-of (o .place) (o .attribute) ⌝ }
     ensures bound { λ r. ⌜ r < 16 ⌝ }
@@ -56,6 +56,7 @@ fn vertex(o: Occurrence) -> u32
     4 * u32::from(o.place % 4) + u32::from(o.attribute % 4)
 }
 
+// The vertices of a rule's arguments, as a set of bits.
 fn argument_bits(arguments: &[Occurrence]) -> u16
     ensures { λ r. ⌜ r ≡ bits-of (now (arguments .entry)) ⌝ }
 {
@@ -66,6 +67,7 @@ fn argument_bits(arguments: &[Occurrence]) -> u16
     row
 }
 
+// The edges from an attribute of the production's own symbol: to the arguments of its rule, if it is synthesized.
 fn parent_edges<L: Language>(language: &L, production: u8, attribute: u8) -> u16
     ensures { λ r. ⌜ r ≡ parent-row (grammar (now (language .entry))) production attribute ⌝ }
 {
@@ -95,6 +97,8 @@ fn relation_field(relation: u16, h: u8, j: u8) -> u16
     (relation >> (h * j)) % (1 << h)
 }
 
+// The edges from an attribute at child place k: to the arguments of its rule, if it is inherited; if it is synthesized, to the inherited
+// attributes on which it depends by the relation chosen for the child's tree.
 fn child_edges<L: Language>(
     language: &L,
     production: u8,

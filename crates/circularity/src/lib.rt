@@ -1,6 +1,6 @@
 // Knuth's test of circularity, for every language behind the interface.
 ghost use Prim.Native.Nat.{ℕ};
-ghost use Rattle.circularity.specs.Verdict.{Verdict};
+ghost use Rattle.circularity.specs.Verdict.{Verdict, VerdictLaws};
 
 pub mod fault;
 mod graph;
@@ -34,3 +34,9 @@ pub fn test<L: Language>(language: &L) -> Result<Passes, LanguageFault>
         relations: count(language, &masks),
     })
 }
+
+// Two verdicts on one table agree: a pass and a fault exclude each other, and there is one count. The function does nothing; its
+// contract is the theorem.
+pub fn verdicts_agree()
+    ensures { λ _. ⌜ VerdictLaws ⌝ }
+{}
