@@ -58,3 +58,31 @@ module _ (ns : List Node) (few : length ns ≤ none) where
       pigeonhole (suc (steps ns r n c)) (length ns) (After ns r n c)
       (λ i j m lt lt′ x y. let h = steps-unique r r m m (x .0) (y .0) refl in omega arith)
       (λ i lt. let (m, a) = after ns r n c i (omega arith) in (m, climb-used ns r m (a .0) .0, a))
+
+-- i steps from node n lead to node m, and the climb from n is the one from m with these before it
+abbrev pub Walked : List Node → ℕ → ℕ → ℕ → Type 0
+Walked ns n i m = ((r : ℕ) → Climb ns r m → Climb ns r n) × ((r : ℕ) (c : Climb ns r n) → After ns r n c i m)
+
+module _ (ns : List Node) (n : ℕ) where
+  pub walked-start : Walked ns n 0 n
+  walked-start = (λ r c. c, λ r c. (c, omega arith))
+
+  up-one : (r m : ℕ) (d : Climb ns r m) → (at ns m .parent ≡ none → ⊥) → After ns r m d 1 (at ns m .parent)
+  up-one r m (ends u p e) further = absurd (further p)
+  up-one r m (goes-on k u p d) further =
+      let P : ℕ → Type 0 = λ i. (e : Climb ns r i) × (steps ns r m (goes-on k u p d) ≡ 1 + steps ns r i e) in
+      subst P (sym p) (d, omega arith)
+
+  pub walked-on : (i m : ℕ) → Walked ns n i m → Used ns m → (at ns m .parent ≡ none → ⊥) → Walked ns n (i + 1) (at ns m .parent)
+  walked-on i m w u further =
+      (λ r c. w .0 r (goes-on (at ns m .parent) u refl c),
+       λ r c. let (d, e) = w .1 r c in let (d′, e′) = up-one r m d further in (d′, omega arith))
+
+  pub walked-ends : (i m : ℕ) → Walked ns n i m → Used ns m → at ns m .parent ≡ none → Climb ns m n
+  walked-ends i m w u p = w .0 m (ends u p refl)
+
+  pub walked-lost : (i m : ℕ) → Walked ns n i m → (Used ns m → ⊥) → (r : ℕ) → Climb ns r n → ⊥
+  walked-lost i m w lost r c = lost (climb-used ns r m (w .1 r c .0))
+
+  pub walked-out : length ns ≤ none → (i m : ℕ) → length ns ≤ i → Walked ns n i m → (r : ℕ) → Climb ns r n → ⊥
+  walked-out few i m all w r c = let short = climb-short ns few r n c in let (d, e) = w .1 r c in omega arith

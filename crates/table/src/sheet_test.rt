@@ -1,0 +1,67 @@
+// Whether the nodes of a table form a sheet.
+ghost use mathlib.Core.Path.{_≡_};
+ghost use Prim.Native.Nat.{ℕ, _≤_, _<_};
+ghost use lib.ListN.{length};
+ghost use Rattle.grammar.specs.Grammar.{Grammar};
+ghost use Rattle.std.specs.Orderings.{When};
+ghost use Rattle.table.specs.Nodes.{at as record-at, Used};
+ghost use Rattle.table.specs.Sheets.{Hole, ChildAt, OneChildOf, Hangs, InOrder, Good, Sheet};
+ghost use Rattle.table.specs.Testing.{ChildrenFit, RecordFits};
+use crate::climb::is_used;
+use crate::climb::top_of;
+use crate::node::NONE;
+use crate::node::Node;
+use crate::record_test::child_of;
+use crate::record_test::is_blank;
+use crate::record_test::is_once_among;
+use crate::record_test::no_child_from;
+use grammar::Language;
+
+// Whether a production is a hole.
+fn is_hole<L: Language>(language: &L, production: u8) -> bool
+    ensures { λ r. ⌜ When r (Hole (grammar (now (language .entry))) production) (Hole (grammar (now (language .entry))) production → ⊥) ⌝ }
+{
+    if production == 0 {
+        return false;
+    }
+    production < language.symbols()
+}
+
+// Whether child place k of node n names a used node of the right symbol that names n as its parent.
+fn child_fits<L: Language>(language: &L, nodes: &[Node], n: u16, k: usize) -> bool
+    requires { ⌜ n < length (now nodes) ⌝ ∗ ⌜ k < 3 ⌝ ∗ ⌜ k < length (grammar (now language) .children (record-at (now nodes) n .production)) ⌝ }
+    ensures { λ r. ⌜ When r (ChildAt (grammar (now (language .entry))) (now (nodes .entry)) n k) (ChildAt (grammar (now (language .entry))) (now (nodes .entry)) n k → ⊥) ⌝ }
+{
+    let child = child_of(&nodes[n as usize], k);
+    if !is_used(nodes, child) {
+        return false;
+    }
+    let symbol = language.children(nodes[n as usize].production)[k];
+    if language.symbol(nodes[child as usize].production) != symbol {
+        return false;
+    }
+    nodes[child as usize].parent == n
+}
+
+// Whether every child of node n is as it should be.
+fn children_fit<L: Language>(language: &L, nodes: &[Node], n: u16) -> bool
+    requires { ⌜ n < length (now nodes) ⌝ ∗ ⌜ record-at (now nodes) n .production < grammar (now language) .productions ⌝ }
+    ensures { λ r. ⌜ When r (ChildrenFit (grammar (now (language .entry))) (now (nodes .entry)) n) (ChildrenFit (grammar (now (language .entry))) (now (nodes .entry)) n → ⊥) ⌝ }
+{
+    let count = language.children(nodes[n as usize].production).len();
+    for k in 0..count {
+        if !child_fits(language, nodes, n, k) {
+            return false;
+        }
+    }
+    true
+}
+
+// Whether node n is exactly one child of node m.
+fn is_one_child_of<L: Language>(language: &L, nodes: &[Node], m: u16, n: u16) -> bool
+    requires { ⌜ m < length (now nodes) ⌝ ∗ ⌜ record-at (now nodes) m .production < grammar (now language) .productions ⌝ }
+    ensures { λ r. ⌜ When r (OneChildOf (grammar (now (language .entry))) (now (nodes .entry)) m n) (OneChildOf (grammar (now (language .entry))) (now (nodes .entry)) m n → ⊥) ⌝ }
+{
+    let count = language.children(nodes[m as usize].production).len();
+    is_once_among(&nodes[m as usize], count, n)
+}
