@@ -65,3 +65,55 @@ fn is_one_child_of<L: Language>(language: &L, nodes: &[Node], m: u16, n: u16) ->
     let count = language.children(nodes[m as usize].production).len();
     is_once_among(&nodes[m as usize], count, n)
 }
+
+// Whether a used node hangs as it should; where it does not, the nodes form no sheet.
+fn hangs<L: Language>(language: &L, nodes: &[Node], n: u16) -> bool
+    requires { ⌜ length (now nodes) ≤ 1000 ⌝ ∗ ⌜ Used (now nodes) n ⌝ }
+    ensures { λ r. ⌜ When r (Hangs (grammar (now (language .entry))) (now (nodes .entry)) n) (Sheet (grammar (now (language .entry))) (now (nodes .entry)) → ⊥) ⌝ }
+{
+    let parent = nodes[n as usize].parent;
+    if n == 0 {
+        return parent == NONE;
+    }
+    if parent == NONE {
+        return !is_hole(language, nodes[n as usize].production);
+    }
+    if !is_used(nodes, parent) {
+        return false;
+    }
+    if nodes[parent as usize].production >= language.productions() {
+        return false;
+    }
+    is_one_child_of(language, nodes, parent, n)
+}
+
+// Whether production 0 stands at node 0 and nowhere else, as far as node n tells.
+fn starts_right(n: u16, production: u8) -> bool
+    ensures { λ r. ⌜ When r ((n ≡ 0 → production ≡ 0) × (production ≡ 0 → n ≡ 0)) ((n ≡ 0 → production ≡ 0) × (production ≡ 0 → n ≡ 0) → ⊥) ⌝ }
+{
+    if n == 0 {
+        return production == 0;
+    }
+    production != 0
+}
+
+// Whether node n's record is right, but for how the node hangs and that climbing ends.
+fn record_fits<L: Language>(language: &L, nodes: &[Node], n: u16) -> bool
+    requires { ⌜ n < length (now nodes) ⌝ }
+    ensures { λ r. ⌜ When r (RecordFits (grammar (now (language .entry))) (now (nodes .entry)) n) (RecordFits (grammar (now (language .entry))) (now (nodes .entry)) n → ⊥) ⌝ }
+{
+    let node = nodes[n as usize];
+    if node.production >= language.productions() {
+        return false;
+    }
+    if !starts_right(n, node.production) {
+        return false;
+    }
+    if !language.accepts(node.production, node.literal) {
+        return false;
+    }
+    if !children_fit(language, nodes, n) {
+        return false;
+    }
+    no_child_from(&node, language.children(node.production).len())
+}
