@@ -117,3 +117,47 @@ fn record_fits<L: Language>(language: &L, nodes: &[Node], n: u16) -> bool
     }
     no_child_from(&node, language.children(node.production).len())
 }
+
+// Whether a used node is in order; where it is not, the nodes form no sheet.
+fn is_in_order<L: Language>(language: &L, nodes: &[Node], n: u16) -> bool
+    requires { ⌜ length (now nodes) ≤ 1000 ⌝ ∗ ⌜ Used (now nodes) n ⌝ }
+    ensures { λ r. ⌜ When r (InOrder (grammar (now (language .entry))) (now (nodes .entry)) n) (Sheet (grammar (now (language .entry))) (now (nodes .entry)) → ⊥) ⌝ }
+{
+    if !record_fits(language, nodes, n) {
+        return false;
+    }
+    if !hangs(language, nodes, n) {
+        return false;
+    }
+    match top_of(nodes, n) {
+        Some(_) => true,
+        None => false,
+    }
+}
+
+// Whether node n is in order or blank; where it is neither, the nodes form no sheet.
+fn is_good<L: Language>(language: &L, nodes: &[Node], n: u16) -> bool
+    requires { ⌜ length (now nodes) ≤ 1000 ⌝ ∗ ⌜ n < length (now nodes) ⌝ }
+    ensures { λ r. ⌜ When r (Good (grammar (now (language .entry))) (now (nodes .entry)) n) (Sheet (grammar (now (language .entry))) (now (nodes .entry)) → ⊥) ⌝ }
+{
+    if nodes[n as usize].used {
+        return is_in_order(language, nodes, n);
+    }
+    is_blank(&nodes[n as usize])
+}
+
+// Whether the nodes form a sheet.
+pub fn is_sheet<L: Language>(language: &L, nodes: &[Node]) -> bool
+    requires { ⌜ length (now nodes) ≤ 1000 ⌝ }
+    ensures { λ r. ⌜ When r (Sheet (grammar (now (language .entry))) (now (nodes .entry))) (Sheet (grammar (now (language .entry))) (now (nodes .entry)) → ⊥) ⌝ }
+{
+    if !is_used(nodes, 0) {
+        return false;
+    }
+    for n in 0..nodes.len() {
+        if !is_good(language, nodes, n as u16) {
+            return false;
+        }
+    }
+    true
+}
