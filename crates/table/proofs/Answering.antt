@@ -1,12 +1,12 @@
 -- From a decided test to what a function promises of its answer.
-use mathlib.Core.Path.{_≡_, refl, sym, subst}
+use mathlib.Core.Path.{_≡_, refl, subst}
 use mathlib.Core.Bool.{Bool, true, false}
 use mathlib.Core.List.{List}
 use Prim.Native.Nat.{ℕ, _≤_}
 use native.Mathlib.Omega.{arith}
 use lib.Dec.{eqb}
 use lib.ListN.{length}
-use Rattle.std.specs.Orderings.{Decides, When}
+use Rattle.std.specs.Orderings.{When}
 use Rattle.std.proofs.shelf.Ways.{decides-eqb}
 use Rattle.table.specs.declared.node.Node.{Node}
 use Rattle.table.specs.Nodes.{none}

@@ -1,6 +1,5 @@
 -- The climb from a node: it ends at one node only, and has fewer steps than there are nodes.
 use mathlib.Core.Path.{_≡_, refl, sym, _∙_, subst}
-use mathlib.Core.Bool.{true}
 use mathlib.Core.List.{List}
 use Prim.Native.Nat.{ℕ, zero, suc, _+_, _≤_, _<_}
 use native.Mathlib.Omega.{arith}
@@ -74,9 +73,10 @@ module _ (ns : List Node) (n : ℕ) where
       subst P (sym p) (d, omega arith)
 
   pub walked-on : (i m : ℕ) → Walked ns n i m → Used ns m → (at ns m .parent ≡ none → ⊥) → Walked ns n (i + 1) (at ns m .parent)
-  walked-on i m w u further =
-      (λ r c. w .0 r (goes-on (at ns m .parent) u refl c),
-       λ r c. let (d, e) = w .1 r c in let (d′, e′) = up-one r m d further in (d′, omega arith))
+  walked-on i m w u further = (
+    λ r c. w .0 r (goes-on (at ns m .parent) u refl c),
+    λ r c. let (d, e) = w .1 r c in let (d′, e′) = up-one r m d further in (d′, omega arith),
+  )
 
   pub walked-ends : (i m : ℕ) → Walked ns n i m → Used ns m → at ns m .parent ≡ none → Climb ns m n
   walked-ends i m w u p = w .0 m (ends u p refl)

@@ -1,6 +1,6 @@
 // Tests of one node's record by itself.
 ghost use mathlib.Core.Path.{_≡_};
-ghost use Prim.Native.Nat.{ℕ, _≤_, _<_};
+ghost use Prim.Native.Nat.{_≤_, _<_};
 ghost use Rattle.std.specs.Orderings.{When};
 ghost use Rattle.table.specs.Nodes.{child-field, Blank};
 ghost use Rattle.table.specs.Testing.{NoChildFrom, Once};

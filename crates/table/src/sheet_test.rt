@@ -1,8 +1,7 @@
 // Whether the nodes of a table form a sheet.
 ghost use mathlib.Core.Path.{_≡_};
-ghost use Prim.Native.Nat.{ℕ, _≤_, _<_};
+ghost use Prim.Native.Nat.{_≤_, _<_};
 ghost use lib.ListN.{length};
-ghost use Rattle.grammar.specs.Grammar.{Grammar};
 ghost use Rattle.std.specs.Orderings.{When};
 ghost use Rattle.table.specs.Nodes.{at as record-at, Used};
 ghost use Rattle.table.specs.Sheets.{Hole, ChildAt, OneChildOf, Hangs, InOrder, Good, Sheet};

@@ -1,6 +1,4 @@
-use mathlib.Core.Path.{_≡_, ap}
 use native.Mathlib.Omega.{arith}
-use lib.ListN.{length}
 use Rattle.table.proofs.Children.{few-children}
 use Rattle.table.proofs.sheet_test.children_fit.Needs as need
 
