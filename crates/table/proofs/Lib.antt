@@ -1,0 +1,3 @@
+pub mod Climbs
+pub mod Answering
+pub mod Children
