@@ -1,3 +1,4 @@
 pub mod Nodes
 pub mod Climbing
 pub mod Sheets
+pub mod Represents
