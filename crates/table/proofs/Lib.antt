@@ -1,2 +1,5 @@
 pub mod Reading
+pub mod Places
 pub mod Represented
+pub mod Frame
+pub mod Under
