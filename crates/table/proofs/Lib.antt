@@ -3,3 +3,6 @@ pub mod Places
 pub mod Represented
 pub mod Frame
 pub mod Under
+pub mod Members
+pub mod Distinctness
+pub mod Existence

@@ -18,7 +18,7 @@ pub data Under (ns : List Node) (n : ℕ) : ℕ → Type 0 where
 -- the climb from node n takes d steps
 pub data Depth (ns : List Node) : ℕ → ℕ → Type 0 where
   top : {d n : ℕ} → at ns n .parent ≡ none → d ≡ 0 → Depth ns d n
-  below : {d n : ℕ} (e m : ℕ) → Used ns m → at ns n .parent ≡ m → Depth ns e m → d ≡ suc e → Depth ns d n
+  one-more : {d n : ℕ} (e m : ℕ) → Used ns m → at ns n .parent ≡ m → Depth ns e m → d ≡ suc e → Depth ns d n
 
 pub under-used : {ns : List Node} {n m : ℕ} → Under ns n m → Used ns m
 under-used (itself u e) = u
@@ -48,24 +48,24 @@ climb-through c (up k u e w) = goes-on k u e (climb-through c w)
 
 pub depth-of : {ns : List Node} {r n : ℕ} → Climb ns r n → (d : ℕ) × Depth ns d n
 depth-of (ends u e f) = (0, top e refl)
-depth-of (goes-on m u e c) = let d = depth-of c in (suc (d .0), below (d .0) m (climb-used c) e (d .1) refl)
+depth-of (goes-on m u e c) = let d = depth-of c in (suc (d .0), one-more (d .0) m (climb-used c) e (d .1) refl)
 
 module _ (ns : List Node) (few : length ns ≤ 1000) where
   pub depth-once : {d e n : ℕ} → Depth ns d n → Depth ns e n → d ≡ e
   depth-once (top p q) (top p′ q′) = omega arith
-  depth-once (top p q) (below e m u p′ w q′) = absurd (never-none ns few m u (sym p′ ∙ p))
-  depth-once (below e m u p w q) (top p′ q′) = absurd (never-none ns few m u (sym p ∙ p′))
-  depth-once (below e m u p w q) (below e′ m′ u′ p′ w′ q′) =
+  depth-once (top p q) (one-more e m u p′ w q′) = absurd (never-none ns few m u (sym p′ ∙ p))
+  depth-once (one-more e m u p w q) (top p′ q′) = absurd (never-none ns few m u (sym p ∙ p′))
+  depth-once (one-more e m u p w q) (one-more e′ m′ u′ p′ w′ q′) =
       let same : e ≡ e′ = depth-once w (subst (λ (i : ℕ). Depth ns e′ i) (sym p′ ∙ p) w′) in
       omega arith
 
   -- what lies under a node is as deep or deeper, and deeper where it lies under by its parent
   pub under-deeper : {d n m : ℕ} → Depth ns d n → Under ns n m → (e : ℕ) × (d ≤ e) × Depth ns e m
   under-deeper {d} w (itself u e) = (d, omega arith, subst (λ (i : ℕ). Depth ns d i) (sym e) w)
-  under-deeper w (up k u e v) = let a = under-deeper w v in (suc (a .0), omega (arith, a .1), below (a .0) k (under-used v) e (a .2) refl)
+  under-deeper w (up k u e v) = let a = under-deeper w v in (suc (a .0), omega (arith, a .1), one-more (a .0) k (under-used v) e (a .2) refl)
 
   pub deeper : {d n m : ℕ} → Depth ns d n → (k : ℕ) → at ns m .parent ≡ k → Under ns n k → (e : ℕ) × (d < e) × Depth ns e m
-  deeper w k e v = let a = under-deeper w v in (suc (a .0), omega (arith, a .1), below (a .0) k (under-used v) e (a .2) refl)
+  deeper w k e v = let a = under-deeper w v in (suc (a .0), omega (arith, a .1), one-more (a .0) k (under-used v) e (a .2) refl)
 
   -- no node lies by its parent under a node as deep as itself
   pub none-both-ways : {d n m : ℕ} → Depth ns d n → Depth ns d m → (k : ℕ) → at ns m .parent ≡ k → Under ns n k → ⊥
