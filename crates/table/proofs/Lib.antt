@@ -6,3 +6,4 @@ pub mod Under
 pub mod Members
 pub mod Distinctness
 pub mod Existence
+pub mod Replaced
