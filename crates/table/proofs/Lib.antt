@@ -7,3 +7,4 @@ pub mod Members
 pub mod Distinctness
 pub mod Existence
 pub mod Replaced
+pub mod Relinking
