@@ -2,7 +2,7 @@
 use mathlib.Core.Path.{_≡_, refl, sym, subst, _∙_}
 use mathlib.Core.Bool.{Bool, true, false}
 use mathlib.Core.List.{List}
-use mathlib.Core.Logic.{_⊎_, inl, inr}
+use mathlib.Core.Logic.{inl, inr}
 use Prim.Native.Nat.{ℕ, zero, suc, _+_, _≤_, _<_}
 use native.Mathlib.Omega.{arith}
 use lib.ListN.{length}
@@ -10,7 +10,7 @@ use Rattle.grammar.specs.Grammar.{Grammar}
 use Rattle.grammar.specs.Tree.{Tree, none, node}
 use Rattle.table.specs.declared.node.Node.{Node}
 use Rattle.table.specs.Nodes.{at, child-field, Used}
-use Rattle.table.specs.Sheets.{Sheet, Good}
+use Rattle.table.specs.Sheets.{Sheet}
 use Rattle.table.specs.Represents.{Represents}
 use Rattle.table.proofs.Reading.{in-order, child-or-none, below-or-not}
 use Rattle.table.proofs.Under.{Depth, one-more, depth-of, depth-once}
@@ -31,10 +31,13 @@ module _ (g : Grammar) (ns : List Node) (sheet : Sheet g ns) (few : length ns �
   bound-below zero h = (0, λ n l u d w. absurd (omega arith))
   bound-below (suc k) h =
       let before = bound-below k (omega arith) in
-      let last = depth-at k (omega arith) in
-      (before .0 + last .0, λ n l u d w. elim (below-or-not n k)
-          [ inl q ↦ omega (arith, before .1 n q u d w)
-          | inr q ↦ let e : n ≡ k = omega arith in omega (arith, last .1 (subst (λ (i : ℕ). Used ns i) e u) d (subst (λ (i : ℕ). Depth ns d i) e w)) ])
+      let last = depth-at k (omega arith) in (
+        before .0 + last .0,
+        λ n l u d w. elim (below-or-not n k) [
+          | inl q ↦ omega (arith, before .1 n q u d w)
+          | inr q ↦ let e : n ≡ k = omega arith in omega (arith, last .1 (subst (λ (i : ℕ). Used ns i) e u) d (subst (λ (i : ℕ). Depth ns d i) e w))
+        ],
+      )
 
   grown : (bound : ℕ) → Bounded (length ns) bound → (steps n d : ℕ) → Used ns n → Depth ns d n → bound < d + steps → (t : Tree) × Represents ns n t
   grown bound within zero n d u w h = absurd (omega (arith, within n (u .0) u d w))
@@ -46,9 +49,10 @@ module _ (g : Grammar) (ns : List Node) (sheet : Sheet g ns) (few : length ns �
       (node n (at ns n .production) (at ns n .literal) (a .0) (b .0) (c .0), (refl, u, refl, refl, a .1, b .1, c .1))
     where
       at-place : ((m : ℕ) → Used ns m → Depth ns (suc d) m → (t : Tree) × Represents ns m t) → (k : ℕ) → k < 3 → (t : Tree) × Represents ns (child-field (at ns n) k) t
-      at-place again k l = elim (child-or-none sheet n u k l)
-          [ inl x ↦ again (child-field (at ns n) k) (x .1 .used) (one-more d n u (x .1 .parent) w refl)
-          | inr x ↦ (none, x .1) ]
+      at-place again k l = elim (child-or-none sheet n u k l) [
+        | inl x ↦ again (child-field (at ns n) k) (x .1 .used) (one-more d n u (x .1 .parent) w refl)
+        | inr x ↦ (none, x .1)
+      ]
 
   -- every used node has a tree under it
   pub represented : (n : ℕ) → Used ns n → (t : Tree) × Represents ns n t

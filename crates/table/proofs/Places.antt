@@ -2,7 +2,7 @@
 use mathlib.Core.Path.{_≡_, refl}
 use mathlib.Core.List.{List, [], _∷_, _++_}
 use mathlib.Core.Logic.{_⊎_, inl, inr}
-use Prim.Native.Nat.{ℕ, zero, suc, _≤_, _<_}
+use Prim.Native.Nat.{ℕ, zero, suc, _<_}
 use native.Mathlib.Omega.{arith}
 use lib.IntN.{ℤ}
 use Rattle.grammar.specs.Tree.{Tree, none, node, hanging}
@@ -45,9 +45,10 @@ in-either x (y ∷ xs) ys (inr i) = elim (in-either x xs ys i) [ inl j ↦ inl (
 
 -- a number of one of three lists, by the list's place
 pub in-place : (x : ℕ) (f : Tree → List ℕ) (n p : ℕ) (l : ℤ) (a b c : Tree) → In x (f a ++ (f b ++ f c)) → (k : ℕ) × (k < 3) × In x (f (hanging (node n p l a b c) k))
-in-place x f n p l a b c i = elim (in-either x (f a) (f b ++ f c) i)
-    [ inl j ↦ (0, omega arith, j)
-    | inr j ↦ elim (in-either x (f b) (f c) j) [ inl k ↦ (1, omega arith, k) | inr k ↦ (2, omega arith, k) ] ]
+in-place x f n p l a b c i = elim (in-either x (f a) (f b ++ f c) i) [
+  | inl j ↦ (0, omega arith, j)
+  | inr j ↦ elim (in-either x (f b) (f c) j) [ inl k ↦ (1, omega arith, k) | inr k ↦ (2, omega arith, k) ]
+]
 
 pub at-place : (x : ℕ) (f : Tree → List ℕ) (n p : ℕ) (l : ℤ) (a b c : Tree) (k : ℕ) → k < 3 → In x (f (hanging (node n p l a b c) k)) → In x (f a ++ (f b ++ f c))
 at-place x f n p l a b c zero h i = in-first x (f a) (f b ++ f c) i

@@ -1,6 +1,5 @@
 -- What is read off a sheet at one used node: what its record keeps, its children, and that no used node has the number for none.
-use mathlib.Core.Path.{_≡_, refl, sym, subst, _∙_}
-use mathlib.Core.Bool.{Bool, true, false}
+use mathlib.Core.Path.{_≡_, refl}
 use mathlib.Core.List.{List, [], _∷_}
 use mathlib.Core.Logic.{_⊎_, inl, inr}
 use Prim.Native.Nat.{ℕ, zero, suc, _≤_, _<_}
@@ -8,7 +7,7 @@ use native.Mathlib.Omega.{arith}
 use lib.ListN.{length, getD}
 use Rattle.grammar.specs.Grammar.{Grammar, child}
 use Rattle.table.specs.declared.node.Node.{Node}
-use Rattle.table.specs.Nodes.{none, at, child-field, Used, Blank}
+use Rattle.table.specs.Nodes.{none, at, child-field, Used}
 use Rattle.table.specs.Sheets.{Sheet, Good, InOrder, ChildAt}
 
 -- one number is below the other or not

@@ -3,7 +3,7 @@ use mathlib.Core.Path.{_≡_, refl, sym, subst, _∙_}
 use mathlib.Core.Bool.{Bool, true, false}
 use mathlib.Core.List.{List, [], _∷_, _++_}
 use mathlib.Core.Logic.{_⊎_, inl, inr}
-use Prim.Native.Nat.{ℕ, zero, suc, _<_}
+use Prim.Native.Nat.{ℕ, _<_}
 use native.Mathlib.Omega.{arith}
 use lib.Dec.{T, eqb, eqb→eq, eqb-refl}
 use lib.IntN.{ℤ}
@@ -71,26 +71,56 @@ module _ (m : ℕ) (n p : ℕ) (l : ℤ) (a b c : Tree) where
 -- the numbers around a subtree are numbers of the tree
 pub around-in : (x m : ℕ) (t : Tree) → In x (around m t) → In x (numbers t)
 around-in x m = tree-induction (λ t. In x (around m t) → In x (numbers t)) (λ i. i)
-    (λ n p l a b c again i. elim (equal-or-not n m)
-        [ inl h ↦ absurd (subst (λ (xs : List ℕ). In x xs) (around-here m n p l a b c (h .0)) i)
-        | inr h ↦
-            let cases : (x ≡ n) ⊎ In x (around m a ++ (around m b ++ around m c)) = subst (λ (xs : List ℕ). In x xs) (around-there m n p l a b c (h .0)) i in
-            elim cases
-                [ inl e ↦ inl e
-                | inr j ↦ let at-k = in-place x (around m) n p l a b c j in inr (at-place x numbers n p l a b c (at-k .0) (at-k .1) (again (at-k .0) (at-k .2))) ] ])
+    (λ n p l a b c again i. elim (equal-or-not n m) [
+      | inl h ↦ absurd (subst (λ (xs : List ℕ). In x xs) (around-here m n p l a b c (h .0)) i)
+      | inr h ↦
+          let cases : (x ≡ n) ⊎ In x (around m a ++ (around m b ++ around m c)) = subst (λ (xs : List ℕ). In x xs) (around-there m n p l a b c (h .0)) i in
+          elim cases [
+            | inl e ↦ inl e
+            | inr j ↦ let at-k = in-place x (around m) n p l a b c j in inr (at-place x numbers n p l a b c (at-k .0) (at-k .1) (again (at-k .0) (at-k .2)))
+          ]
+    ])
 
 -- the numbers of the new tree are those around the subtree and those of what replaced it
 pub replaced-numbers : (x m : ℕ) (u t : Tree) → In x (numbers (replace m u t)) → In x (around m t) ⊎ In x (numbers u)
 replaced-numbers x m u = tree-induction (λ t. In x (numbers (replace m u t)) → In x (around m t) ⊎ In x (numbers u)) (λ i. inl i)
-    (λ n p l a b c again i. elim (equal-or-not n m)
-        [ inl h ↦ inr (subst (λ (s : Tree). In x (numbers s)) (replace-here m n p l a b c u (h .0)) i)
-        | inr h ↦
-            let cases : (x ≡ n) ⊎ In x (numbers (replace m u a) ++ (numbers (replace m u b) ++ numbers (replace m u c))) = subst (λ (s : Tree). In x (numbers s)) (replace-there m n p l a b c u (h .0)) i in
-            subst (λ (xs : List ℕ). In x xs ⊎ In x (numbers u)) (sym (around-there m n p l a b c (h .0))) (elim cases
-                [ inl e ↦ inl (inl e)
-                | inr j ↦
-                    let at-k = in-place x (λ s. numbers (replace m u s)) n p l a b c j in
-                    elim (again (at-k .0) (at-k .2)) [ inl q ↦ inl (inr (at-place x (around m) n p l a b c (at-k .0) (at-k .1) q)) | inr q ↦ inr q ] ]) ])
+    (λ n p l a b c again i. elim (equal-or-not n m) [
+      | inl h ↦ inr (subst (λ (s : Tree). In x (numbers s)) (replace-here m n p l a b c u (h .0)) i)
+      | inr h ↦
+          let cases : (x ≡ n) ⊎ In x (numbers (replace m u a) ++ (numbers (replace m u b) ++ numbers (replace m u c))) = subst (λ (s : Tree). In x (numbers s)) (replace-there m n p l a b c u (h .0)) i in
+          subst (λ (xs : List ℕ). In x xs ⊎ In x (numbers u)) (sym (around-there m n p l a b c (h .0))) (elim cases [
+            | inl e ↦ inl (inl e)
+            | inr j ↦
+                let at-k = in-place x (λ s. numbers (replace m u s)) n p l a b c j in
+                elim (again (at-k .0) (at-k .2)) [ inl q ↦ inl (inr (at-place x (around m) n p l a b c (at-k .0) (at-k .1) q)) | inr q ↦ inr q ]
+          ])
+    ])
+
+pub around-stays : (x m : ℕ) (u t : Tree) → In x (around m t) → In x (numbers (replace m u t))
+around-stays x m u = tree-induction (λ t. In x (around m t) → In x (numbers (replace m u t))) (λ i. i)
+    (λ n p l a b c again i. elim (equal-or-not n m) [
+      | inl h ↦ absurd (subst (λ (xs : List ℕ). In x xs) (around-here m n p l a b c (h .0)) i)
+      | inr h ↦
+          let cases : (x ≡ n) ⊎ In x (around m a ++ (around m b ++ around m c)) = subst (λ (xs : List ℕ). In x xs) (around-there m n p l a b c (h .0)) i in
+          subst (λ (s : Tree). In x (numbers s)) (sym (replace-there m n p l a b c u (h .0))) (elim cases [
+            | inl e ↦ inl e
+            | inr j ↦
+                let at-k = in-place x (around m) n p l a b c j in
+                inr (at-place x (λ s. numbers (replace m u s)) n p l a b c (at-k .0) (at-k .1) (again (at-k .0) (at-k .2)))
+          ])
+    ])
+
+pub replacement-in : (x m : ℕ) (u : Tree) → In x (numbers u) → (t : Tree) → In m (numbers t) → In x (numbers (replace m u t))
+replacement-in x m u w = tree-induction (λ t. In m (numbers t) → In x (numbers (replace m u t))) (λ i. i)
+    (λ n p l a b c again i. elim (equal-or-not n m) [
+      | inl h ↦ subst (λ (s : Tree). In x (numbers s)) (sym (replace-here m n p l a b c u (h .0))) w
+      | inr h ↦ subst (λ (s : Tree). In x (numbers s)) (sym (replace-there m n p l a b c u (h .0))) (elim i [
+        | inl e ↦ absurd (h .1 (sym e))
+        | inr j ↦
+            let at-k = in-place m numbers n p l a b c j in
+            inr (at-place x (λ s. numbers (replace m u s)) n p l a b c (at-k .0) (at-k .1) (again (at-k .0) (at-k .2)))
+      ])
+    ])
 
 -- where no number is m, nothing is replaced
 pub replace-absent : (m : ℕ) (u t : Tree) → (In m (numbers t) → ⊥) → replace m u t ≡ t
@@ -105,16 +135,17 @@ replace-absent m u (node n p l a b c) absent =
 pub replaced : (ns ns′ : List Node) (m m′ : ℕ) (u : Tree) → (m ≡ Nodes.none → ⊥) → Represents ns′ m′ u → (t : Tree) (n : ℕ) → Represents ns n t → ((x : ℕ) → In x (around m t) → Relinked ns ns′ m m′ x) → Represents ns′ (redirect m m′ n) (replace m u t)
 replaced ns ns′ m m′ u some new = tree-induction (λ t. (n : ℕ) → Represents ns n t → ((x : ℕ) → In x (around m t) → Relinked ns ns′ m m′ x) → Represents ns′ (redirect m m′ n) (replace m u t))
     (λ n r relinked. redirect-other m m′ n (λ e. some (sym e ∙ r)) ∙ r)
-    (λ i p l a b c again n r relinked. elim (equal-or-not i m)
-        [ inl h ↦ both (redirect-same m m′ n (sym (r .0) ∙ h .1)) (replace-here m i p l a b c u (h .0)) new
-        | inr h ↦
-            let inside : (x : ℕ) → (x ≡ i) ⊎ In x (around m a ++ (around m b ++ around m c)) → Relinked ns ns′ m m′ x = λ x q. relinked x (subst (λ (xs : List ℕ). In x xs) (sym (around-there m i p l a b c (h .0))) q) in
-            let here : Relinked ns ns′ m m′ n = inside n (inl (sym (r .0))) in
-            let place : (k : ℕ) → k < 3 → Represents ns′ (child-field (at ns′ n) k) (replace m u (hanging (node i p l a b c) k)) =
-                λ k less. subst (λ (j : ℕ). Represents ns′ j (replace m u (hanging (node i p l a b c) k))) (sym (here .children k less))
-                    (again k (child-field (at ns n) k) (represented-at ns n i p l a b c r k less) (λ x q. inside x (inr (at-place x (around m) i p l a b c k less q)))) in
-            both (redirect-other m m′ n (λ e. h .1 (r .0 ∙ e))) (replace-there m i p l a b c u (h .0))
-                (r .0, here .used, here .production ∙ r .2, here .literal ∙ r .3, place 0 (omega arith), place 1 (omega arith), place 2 (omega arith)) ])
+    (λ i p l a b c again n r relinked. elim (equal-or-not i m) [
+      | inl h ↦ both (redirect-same m m′ n (sym (r .0) ∙ h .1)) (replace-here m i p l a b c u (h .0)) new
+      | inr h ↦
+          let inside : (x : ℕ) → (x ≡ i) ⊎ In x (around m a ++ (around m b ++ around m c)) → Relinked ns ns′ m m′ x = λ x q. relinked x (subst (λ (xs : List ℕ). In x xs) (sym (around-there m i p l a b c (h .0))) q) in
+          let here : Relinked ns ns′ m m′ n = inside n (inl (sym (r .0))) in
+          let place : (k : ℕ) → k < 3 → Represents ns′ (child-field (at ns′ n) k) (replace m u (hanging (node i p l a b c) k)) =
+          λ k less. subst (λ (j : ℕ). Represents ns′ j (replace m u (hanging (node i p l a b c) k))) (sym (here .children k less))
+          (again k (child-field (at ns n) k) (represented-at ns n i p l a b c r k less) (λ x q. inside x (inr (at-place x (around m) i p l a b c k less q)))) in
+          both (redirect-other m m′ n (λ e. h .1 (r .0 ∙ e))) (replace-there m i p l a b c u (h .0))
+          (r .0, here .used, here .production ∙ r .2, here .literal ∙ r .3, place 0 (omega arith), place 1 (omega arith), place 2 (omega arith))
+    ])
   where
     both : {i j : ℕ} {s t : Tree} → i ≡ j → s ≡ t → Represents ns′ j t → Represents ns′ i s
     both {i} {j} {s} {t} e f r = subst (λ (k : ℕ). Represents ns′ k s) (sym e) (subst (λ (z : Tree). Represents ns′ j z) (sym f) r)

@@ -1,8 +1,8 @@
 -- The tree under a node is one, and is a tree of the node's symbol.
-use mathlib.Core.Path.{_≡_, refl, sym, subst, _∙_}
-use mathlib.Core.List.{List, [], _∷_}
-use mathlib.Core.Logic.{_⊎_, inl, inr}
-use Prim.Native.Nat.{ℕ, zero, suc, _≤_, _<_}
+use mathlib.Core.Path.{_≡_, refl, sym, subst}
+use mathlib.Core.List.{List}
+use mathlib.Core.Logic.{inl, inr}
+use Prim.Native.Nat.{ℕ, _≤_, _<_}
 use native.Mathlib.Omega.{arith}
 use lib.ListN.{length}
 use Rattle.grammar.specs.Grammar.{Grammar, child}
@@ -36,6 +36,7 @@ well-formed {g} {ns} sheet few n (node m p l a b c) u r =
     (rw (← r .2) (in-order sheet n u .production-exists), rw (r .2) refl, below 0 (omega arith) a (well-formed sheet few (child-field (at ns n) 0) a) (r .4), below 1 (omega arith) b (well-formed sheet few (child-field (at ns n) 1) b) (r .5), below 2 (omega arith) c (well-formed sheet few (child-field (at ns n) 2) c) (r .6))
   where
     below : (k : ℕ) → k < 3 → (s : Tree) → (Used ns (child-field (at ns n) k) → Represents ns (child-field (at ns n) k) s → TreeOf g (g .symbol (at ns (child-field (at ns n) k) .production)) s) → Represents ns (child-field (at ns n) k) s → TreeOf g (child g p k) s
-    below k h s again q = elim (child-or-none sheet n u k h)
-        [ inl x ↦ subst (λ (i : ℕ). TreeOf g (child g i k) s) (r .2) (subst (λ (i : ℕ). TreeOf g i s) (x .1 .symbol) (again (x .1 .used) q))
-        | inr x ↦ subst (λ (i : ℕ). TreeOf g (child g i k) s) (r .2) (subst (λ (z : Tree). TreeOf g (child g (at ns n .production) k) z) (sym (nothing-there ns few (child-field (at ns n) k) s (x .1) q)) (x .0)) ]
+    below k h s again q = elim (child-or-none sheet n u k h) [
+      | inl x ↦ subst (λ (i : ℕ). TreeOf g (child g i k) s) (r .2) (subst (λ (i : ℕ). TreeOf g i s) (x .1 .symbol) (again (x .1 .used) q))
+      | inr x ↦ subst (λ (i : ℕ). TreeOf g (child g i k) s) (r .2) (subst (λ (z : Tree). TreeOf g (child g (at ns n .production) k) z) (sym (nothing-there ns few (child-field (at ns n) k) s (x .1) q)) (x .0))
+    ]
