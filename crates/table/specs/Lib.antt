@@ -1,4 +1,5 @@
 pub mod Nodes
 pub mod Climbing
 pub mod Sheets
+pub mod Represents
 pub mod Testing
