@@ -7,7 +7,7 @@ use lib.ListN.{length, getD, set}
 use Rattle.grammar.specs.Grammar.{Grammar, child}
 use Rattle.table.specs.declared.node.Node.{Node}
 use Rattle.table.specs.Nodes.{none, at, child-field}
-use Rattle.edit.specs.Memory.{OneOf, OnlyRecords}
+use Rattle.edit.specs.Memory.{OnlyRecords}
 use Rattle.edit.specs.Fresh.{new-nodes, hole-record, three, free-record, with-parent, with-literal}
 
 -- Holes are put down at new nodes under a parent, for the children of a production.
