@@ -1,3 +1,5 @@
 pub mod Nodes
 pub mod Climbing
 pub mod Sheets
+pub mod Refusals
+pub mod Faults
