@@ -3,3 +3,4 @@ pub mod Climbing
 pub mod Sheets
 pub mod Refusals
 pub mod Faults
+pub mod Checks
