@@ -1,2 +1,4 @@
 pub mod Refusing
 pub mod Beginning
+pub mod Waiting
+pub mod Tallying

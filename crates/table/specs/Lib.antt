@@ -4,3 +4,5 @@ pub mod Sheets
 pub mod Refusals
 pub mod Faults
 pub mod Checks
+pub mod Stacks
+pub mod Free

@@ -1,0 +1,7 @@
+use mathlib.Core.Path.{refl}
+use native.Mathlib.Omega.{arith}
+use Rattle.table.proofs.Waiting.{pops}
+use Rattle.table.proofs.stack.Stack.pop.Needs as need
+
+pub returns : need.returns
+returns g c = record { popped = pops _ _ _ (omega arith) (c .pre); lender = refl }
