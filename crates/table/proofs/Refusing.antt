@@ -1,8 +1,12 @@
 -- Lists of checks put together and lifted: what the parts say, the whole says.
-use mathlib.Core.Path.{_≡_, refl}
+-- `handed-on` and `passed-on` answer the exit of a `?`: the callee's refusal is the caller's, in the same layer and in the one above.
+use mathlib.Core.Path.{_≡_, refl, sym, subst}
 use mathlib.Core.List.{List, [], _∷_, _++_}
 use mathlib.Core.Logic.{_⊎_, inl, inr}
-use Rattle.table.specs.Refusals.{Check, Met, First, lifted}
+use Rattle.std.specs.Results.{ErrBy}
+use Rattle.std.specs.declared.result.Result.{Result}
+use Rattle.std.specs.declared.result.Result.the-variants.{Ok, Err}
+use Rattle.table.specs.Refusals.{Check, Met, First, lifted, Answer}
 
 module _ {F : Type 0} where
   pub met-both : (cs ds : List (Check F)) → Met cs → Met ds → Met (cs ++ ds)
@@ -34,6 +38,13 @@ module _ {F : Type 0} where
   met-or-refused (c ∷ cs) f m (inl r) = r .0 (m .0)
   met-or-refused (c ∷ cs) f m (inr r) = met-or-refused cs f (m .1) (r .1)
 
+  -- The callee's checks come after some that are met, and before others.
+  pub handed-on : {A : Type 0} (front cs back : List (Check F)) (e : F) (r : Result A F)
+    → Met front → First cs e → ErrBy r (λ f. f ≡ e) → Answer (front ++ (cs ++ back)) r
+  handed-on front cs back e (Ok a) m w k = absurd k
+  handed-on front cs back e (Err f) m w k =
+      subst (λ x. First (front ++ (cs ++ back)) x) (sym k) (first-back front (cs ++ back) e m (first-front cs back e w))
+
 module _ {E F : Type 0} (up : E → F) where
   pub met-lifted : (cs : List (Check E)) → Met cs → Met (lifted up cs)
   met-lifted [] m = tt
@@ -47,3 +58,8 @@ module _ {E F : Type 0} (up : E → F) where
   first-lifted [] e r = absurd r
   first-lifted (c ∷ cs) e (inl r) = inl (r .0, (e, r .1, refl))
   first-lifted (c ∷ cs) e (inr r) = inr (r .0, first-lifted cs e (r .1))
+
+  -- The same, where the callee is of the layer below.
+  pub passed-on : {A : Type 0} (front : List (Check F)) (cs : List (Check E)) (back : List (Check F)) (e : E) (r : Result A F)
+    → Met front → First cs e → ErrBy r (λ f. f ≡ up e) → Answer (front ++ (lifted up cs ++ back)) r
+  passed-on front cs back e r m w k = handed-on front (lifted up cs) back (up e) r m (first-lifted cs e w) k
