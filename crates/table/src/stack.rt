@@ -1,7 +1,6 @@
 // The waiting list: one stack over lent slots.
 ghost use mathlib.Core.Path.{_≡_};
 ghost use Prim.Native.Nat.{ℕ, _≤_};
-ghost use denote.Ref.{name};
 ghost use lib.ListN.{length};
 ghost use Rattle.table.specs.Stacks.{PushAnswer, PopAnswer};
 
@@ -23,8 +22,7 @@ impl<'a, T: Copy> Stack<'a, T> {
 
     // Puts an entry on top. False where every slot is taken; nothing has changed then.
     pub fn push(&mut self, entry: T) -> bool
-        ensures pushed { λ r. ⌜ PushAnswer entry (now (now (self .entry) .slots)) (now (now (self .exit) .slots)) (now (self .entry) .len) (now (self .exit) .len) r ⌝ }
-        ensures lender { λ _. ⌜ name (now (self .exit) .slots) ≡ name (now (self .entry) .slots) ⌝ }
+        ensures { λ r. ⌜ PushAnswer entry (now (now (self .entry) .slots)) (now (now (self .exit) .slots)) (now (self .entry) .len) (now (self .exit) .len) r ⌝ }
     {
         if self.len >= self.slots.len() {
             return false;
@@ -37,8 +35,7 @@ impl<'a, T: Copy> Stack<'a, T> {
     // Takes the top entry off. None where there is none.
     pub fn pop(&mut self) -> Option<T>
         requires { ⌜ now self .len ≤ length (now (now self .slots)) ⌝ }
-        ensures popped { λ r. ⌜ PopAnswer (now (now (self .entry) .slots)) (now (now (self .exit) .slots)) (now (self .entry) .len) (now (self .exit) .len) r ⌝ }
-        ensures lender { λ _. ⌜ name (now (self .exit) .slots) ≡ name (now (self .entry) .slots) ⌝ }
+        ensures { λ r. ⌜ PopAnswer (now (now (self .entry) .slots)) (now (now (self .exit) .slots)) (now (self .entry) .len) (now (self .exit) .len) r ⌝ }
     {
         if self.len == 0 {
             return None;
