@@ -6,3 +6,4 @@ pub mod Faults
 pub mod Checks
 pub mod Stacks
 pub mod Free
+pub mod Testing
