@@ -1,3 +1,6 @@
 pub mod Memory
 pub mod Fresh
 pub mod Edits
+pub mod Faults
+pub mod Checks
+pub mod Calls

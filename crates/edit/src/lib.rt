@@ -1,7 +1,6 @@
 // The work of the edits on records and rows.
 ghost use Prim.Native.Nat.{ℕ};
 ghost use Rattle.edit.specs.Edits.{Inserted, Retyped, CutOut, Pasted, Exchanged};
+pub mod fault;
 
-pub fn nothing() -> u8 {
-    0
-}
+pub use fault::EditFault;
