@@ -6,5 +6,4 @@ pub mod Refusals
 pub mod Faults
 pub mod Checks
 pub mod Stacks
-pub mod Free
 pub mod Testing

@@ -1,8 +1,7 @@
-// Tables of nodes: their records, when they form a sheet, which nodes are on it and which are free, and what calls on them check first.
+// Tables of nodes: their records, when they form a sheet, which nodes are on it, and what calls on them check first.
 pub mod checks;
 pub mod climb;
 pub mod fault;
-pub mod free;
 pub mod node;
 mod record_test;
 pub mod sheet_test;
@@ -16,8 +15,6 @@ pub use climb::is_on_sheet;
 pub use climb::is_used;
 pub use climb::top_of;
 pub use fault::TableFault;
-pub use free::free_count;
-pub use free::highest_free;
 pub use node::NONE;
 pub use node::Node;
 pub use sheet_test::is_sheet;
