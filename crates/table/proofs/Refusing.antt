@@ -40,7 +40,7 @@ module _ {F : Type 0} where
 
   -- The callee's checks come after some that are met, and before others.
   pub handed-on : {A : Type 0} (front cs back : List (Check F)) (e : F) (r : Result A F)
-    → Met front → First cs e → ErrBy r (λ f. f ≡ e) → Answer (front ++ (cs ++ back)) r
+      → Met front → First cs e → ErrBy r (λ f. f ≡ e) → Answer (front ++ (cs ++ back)) r
   handed-on front cs back e (Ok a) m w k = absurd k
   handed-on front cs back e (Err f) m w k =
       subst (λ x. First (front ++ (cs ++ back)) x) (sym k) (first-back front (cs ++ back) e m (first-front cs back e w))
@@ -61,5 +61,5 @@ module _ {E F : Type 0} (up : E → F) where
 
   -- The same, where the callee is of the layer below.
   pub passed-on : {A : Type 0} (front : List (Check F)) (cs : List (Check E)) (back : List (Check F)) (e : E) (r : Result A F)
-    → Met front → First cs e → ErrBy r (λ f. f ≡ up e) → Answer (front ++ (lifted up cs ++ back)) r
+      → Met front → First cs e → ErrBy r (λ f. f ≡ up e) → Answer (front ++ (lifted up cs ++ back)) r
   passed-on front cs back e r m w k = handed-on front (lifted up cs) back (up e) r m (first-lifted cs e w) k

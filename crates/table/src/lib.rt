@@ -6,6 +6,7 @@ pub mod node;
 mod record_test;
 pub mod sheet_test;
 pub mod stack;
+pub mod trees;
 
 pub use checks::begin;
 pub use checks::check_buffer;
