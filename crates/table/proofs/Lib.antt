@@ -1,0 +1,16 @@
+pub mod Refusing
+pub mod Beginning
+pub mod Waiting
+pub mod Climbs
+pub mod Answering
+pub mod Children
+pub mod Reading
+pub mod Places
+pub mod Represented
+pub mod Frame
+pub mod Under
+pub mod Members
+pub mod Distinctness
+pub mod Existence
+pub mod Replaced
+pub mod Relinking

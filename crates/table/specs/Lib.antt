@@ -1,0 +1,9 @@
+pub mod Nodes
+pub mod Climbing
+pub mod Sheets
+pub mod Represents
+pub mod Refusals
+pub mod Faults
+pub mod Checks
+pub mod Stacks
+pub mod Testing
