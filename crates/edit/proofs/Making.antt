@@ -1,0 +1,127 @@
+-- The table that make leaves is a sheet, with production 0 over holes under node 0 and nothing else.
+use mathlib.Core.Path.{_≡_, refl, sym, subst, ap, _∙_}
+use mathlib.Core.Bool.{Bool, true, false}
+use mathlib.Core.List.{List, [], _∷_}
+use mathlib.Core.Logic.{_⊎_, inl, inr}
+use Prim.Native.Nat.{ℕ, zero, suc, _+_, _-_, _≤_, _<_}
+use native.Mathlib.Omega.{arith}
+use lib.IntN.{pos}
+use lib.ListN.{length, getD}
+use Rattle.grammar.specs.Grammar.{Grammar, child}
+use Rattle.grammar.specs.Limits.{Limits}
+use Rattle.grammar.specs.Text.{Segment}
+use Rattle.grammar.specs.Tree.{Tree, node}
+use Rattle.grammar.specs.Tree
+use Rattle.table.specs.declared.node.Node.{Node}
+use Rattle.table.specs.Nodes.{none, at, child-field, Used, Blank}
+use Rattle.table.specs.Climbing.{Climb, ends, goes-on}
+use Rattle.table.specs.Sheets.{Sheet, Good, InOrder, ChildAt, OneChildOf, Hangs, root, below}
+use Rattle.table.specs.Represents.{Represents}
+use Rattle.table.proofs.Reading.{below-or-not, past-the-end}
+use Rattle.edit.specs.Fresh.{hole-record, three, free-record}
+use Rattle.edit.specs.Edits.{highest, Made}
+use Rattle.edit.specs.Calls.{hole-tree, hole-trees, hole-at-place}
+use Rattle.edit.proofs.Discarding.{free-is-blank}
+
+-- the highest numbers by place, and none past them
+pub highest-at : (n count k : ℕ) → k < count → getD (highest n count) k none ≡ n - 1 - k
+highest-at n zero k h = absurd (omega arith)
+highest-at n (suc count) zero h = omega arith
+highest-at n (suc count) (suc k) h = let e : getD (highest (n - 1) count) k none ≡ n - 1 - 1 - k = highest-at (n - 1) count k (omega arith) in omega arith
+
+pub highest-past : (n count k : ℕ) → count ≤ k → getD (highest n count) k none ≡ none
+highest-past n zero k h = refl
+highest-past n (suc count) zero h = absurd (omega arith)
+highest-past n (suc count) (suc k) h = highest-past (n - 1) count k (omega arith)
+
+pub three-at : (xs : List ℕ) (k : ℕ) → k < 3 → getD (three xs) k 0 ≡ getD xs k none
+three-at xs zero h = refl
+three-at xs (suc zero) h = refl
+three-at xs (suc (suc zero)) h = refl
+three-at xs (suc (suc (suc k))) h = absurd (omega arith)
+
+-- the trees of holes by place: a hole for each number that has a symbol, and nothing past them
+pub hole-trees-at : (ns symbols : List ℕ) (k : ℕ) (d e : ℕ) → k < length ns → k < length symbols → getD (hole-trees ns symbols) k Tree.none ≡ hole-tree (getD ns k d) (getD symbols k e)
+hole-trees-at [] symbols k d e h i = absurd (omega arith)
+hole-trees-at (n ∷ ns) [] k d e h i = absurd (omega arith)
+hole-trees-at (n ∷ ns) (s ∷ symbols) zero d e h i = refl
+hole-trees-at (n ∷ ns) (s ∷ symbols) (suc k) d e h i = hole-trees-at ns symbols k d e (omega arith) (omega arith)
+
+pub hole-trees-past : (ns symbols : List ℕ) (k : ℕ) → length symbols ≤ k → getD (hole-trees ns symbols) k Tree.none ≡ Tree.none
+hole-trees-past [] symbols k h = refl
+hole-trees-past (n ∷ ns) [] k h = refl
+hole-trees-past (n ∷ ns) (s ∷ symbols) zero h = absurd (omega arith)
+hole-trees-past (n ∷ ns) (s ∷ symbols) (suc k) h = hole-trees-past ns symbols k (omega arith)
+
+pub length-highest : (n count : ℕ) → length (highest n count) ≡ count
+length-highest n zero = refl
+length-highest n (suc count) = ap suc (length-highest (n - 1) count)
+
+-- the fields of a hole's record name nothing
+pub hole-fields : (s m k : ℕ) → k < 3 → child-field (hole-record s m) k ≡ none
+hole-fields s m k h = fields k h
+  where
+    fields : (k : ℕ) → k < 3 → child-field (hole-record s m) k ≡ none
+    fields zero h = refl
+    fields (suc zero) h = refl
+    fields (suc (suc zero)) h = refl
+    fields (suc (suc (suc k))) h = absurd (omega arith)
+
+module _ (g : Grammar) (text : ℕ → List Segment) (limits : Limits g text) (nodes : ℕ) (ns : List Node) (made : Made g nodes ns) (few : nodes ≤ 1000) (room : suc (length (g .children 0)) ≤ nodes) where
+  count : ℕ
+  count = length (g .children 0)
+
+  at-most-three : length (g .children 0) ≤ 3
+  at-most-three = limits .each 0 (limits .start .0) .few-children
+
+  start-used : Used ns 0
+  start-used = (omega (arith, made .many), rw (made .start-is) refl)
+
+  -- child place k of node 0
+  field : (k : ℕ) → k < length (g .children 0) → child-field (at ns 0) k ≡ nodes - 1 - k
+  field k h = rw (made .start-is) (three-at (highest nodes (length (g .children 0))) k (omega arith) ∙ highest-at nodes (length (g .children 0)) k h)
+
+  no-field : (k : ℕ) → length (g .children 0) ≤ k → k < 3 → child-field (at ns 0) k ≡ none
+  no-field k h i = rw (made .start-is) (three-at (highest nodes (length (g .children 0))) k i ∙ highest-past nodes (length (g .children 0)) k h)
+
+  -- the hole at child place k
+  module _ (k : ℕ) (h : k < length (g .children 0)) where
+    hole-used : Used ns (nodes - 1 - k)
+    hole-used = (omega (arith, made .many), rw (made .hole k h) refl)
+
+    exists : (0 < child g 0 k) × (child g 0 k < g .symbols)
+    exists = limits .each 0 (limits .start .0) .child-exists k h
+
+    is-hole : (child g 0 k < g .productions) × (g .symbol (child g 0 k) ≡ child g 0 k) × (g .children (child g 0 k) ≡ [])
+    is-hole = limits .hole (child g 0 k) (exists .0) (exists .1)
+
+    child-fits : ChildAt g ns 0 k
+    child-fits = record {
+      used = rw (field k h) hole-used;
+      symbol = rw (field k h, made .hole k h, made .start-is) (is-hole .1);
+      parent = rw (field k h, made .hole k h) refl;
+    }
+
+    one-child : OneChildOf g ns 0 (nodes - 1 - k)
+    one-child = record {
+      place = k;
+      inside = rw (made .start-is) h;
+      named = field k h;
+      alone = λ j i e. (
+        let i′ : j < length (g .children 0) = rw (made .start-is) at i in
+        let f : child-field (at ns 0) j ≡ nodes - 1 - j = field j i′ in
+        let e′ : nodes - 1 - j ≡ nodes - 1 - k = sym f ∙ e in
+        omega arith
+      );
+    }
+
+    hole-in-order : InOrder g ns (nodes - 1 - k)
+    hole-in-order = record {
+      production-exists = rw (made .hole k h) (is-hole .0);
+      start = (λ e. absurd (omega arith), rw (made .hole k h) (λ e. absurd (omega (arith, exists .0))));
+      literal-accepted = rw (made .hole k h) (limits .zero-alone (child g 0 k) (exists .1) .0);
+      children = λ j i. absurd (let i′ : j < length (g .children (child g 0 k)) = rw (made .hole k h) at i in let z : length (g .children (child g 0 k)) ≡ 0 = ap length (is-hole .2) in omega arith);
+      no-further = λ j i l. rw (made .hole k h) (hole-fields (child g 0 k) 0 j l);
+      hangs = below (λ e. absurd (omega arith)) (rw (made .hole k h) start-used) (rw (made .hole k h) one-child);
+      climbs = (0, goes-on 0 hole-used (rw (made .hole k h) refl) (ends start-used (rw (made .start-is) refl) refl));
+    }
