@@ -68,9 +68,6 @@ hole-fields s m k h = fields k h
     fields (suc (suc (suc k))) h = absurd (omega arith)
 
 module _ (g : Grammar) (text : ℕ → List Segment) (limits : Limits g text) (nodes : ℕ) (ns : List Node) (made : Made g nodes ns) (few : nodes ≤ 1000) (room : suc (length (g .children 0)) ≤ nodes) where
-  count : ℕ
-  count = length (g .children 0)
-
   at-most-three : length (g .children 0) ≤ 3
   at-most-three = limits .each 0 (limits .start .0) .few-children
 
@@ -79,7 +76,7 @@ module _ (g : Grammar) (text : ℕ → List Segment) (limits : Limits g text) (n
 
   -- child place k of node 0
   field : (k : ℕ) → k < length (g .children 0) → child-field (at ns 0) k ≡ nodes - 1 - k
-  field k h = rw (made .start-is) (three-at (highest nodes (length (g .children 0))) k (omega arith) ∙ highest-at nodes (length (g .children 0)) k h)
+  field k h = rw (made .start-is) (three-at (highest nodes (length (g .children 0))) k (omega (arith, at-most-three)) ∙ highest-at nodes (length (g .children 0)) k h)
 
   no-field : (k : ℕ) → length (g .children 0) ≤ k → k < 3 → child-field (at ns 0) k ≡ none
   no-field k h i = rw (made .start-is) (three-at (highest nodes (length (g .children 0))) k i ∙ highest-past nodes (length (g .children 0)) k h)
@@ -125,3 +122,53 @@ module _ (g : Grammar) (text : ℕ → List Segment) (limits : Limits g text) (n
       hangs = below (λ e. absurd (omega arith)) (rw (made .hole k h) start-used) (rw (made .hole k h) one-child);
       climbs = (0, goes-on 0 hole-used (rw (made .hole k h) refl) (ends start-used (rw (made .start-is) refl) refl));
     }
+
+  -- node 0
+  start-in-order : InOrder g ns 0
+  start-in-order = record {
+    production-exists = rw (made .start-is) (limits .start .0);
+    start = (λ e. rw (made .start-is) refl, λ e. refl);
+    literal-accepted = rw (made .start-is) (limits .zero-alone 0 (omega (arith, limits .some-symbol)) .0);
+    children = λ k h. child-fits k (rw (made .start-is) at h);
+    no-further = λ k h i. no-field k (rw (made .start-is) at h) i;
+    hangs = root refl (rw (made .start-is) refl);
+    climbs = (0, ends start-used (rw (made .start-is) refl) refl);
+  }
+
+  good-used : (n : ℕ) → Used ns n → InOrder g ns n → Good g ns n
+  good-used n u o = rw (u .1, Good) o
+
+  good-free : (n : ℕ) → Blank (at ns n) → Good g ns n
+  good-free n b = rw (b .free, Good) b
+
+  good-made : (n : ℕ) → n < nodes → Good g ns n
+  good-made zero h = good-used 0 start-used start-in-order
+  good-made (suc n) h = elim (below-or-not (suc n + length (g .children 0)) nodes) [
+    | inl l ↦ good-free (suc n) (free-is-blank (at ns (suc n)) (made .free (suc n) (omega arith) l))
+    | inr l ↦
+        let e : nodes - 1 - (nodes - 1 - suc n) ≡ suc n = omega arith in
+        subst (λ (i : ℕ). Good g ns i) e (good-used (nodes - 1 - (nodes - 1 - suc n)) (hole-used (nodes - 1 - suc n) (omega arith)) (hole-in-order (nodes - 1 - suc n) (omega arith)))
+  ]
+
+  pub made-sheet : Sheet g ns
+  made-sheet = record { root-used = start-used; each = λ n h. good-made n (omega (arith, made .many)) }
+
+  -- what hangs at child place k of node 0
+  hole-hangs : (k : ℕ) → k < 3 → Represents ns (child-field (at ns 0) k) (hole-at-place g 0 (highest nodes (length (g .children 0))) k)
+  hole-hangs k h = elim (below-or-not k (length (g .children 0))) [
+    | inl l ↦
+        let at-k = hole-trees-at (highest nodes (length (g .children 0))) (g .children 0) k none (g .symbols) (omega (arith, length-highest nodes (length (g .children 0)))) l in
+        let number : child-field (at ns 0) k ≡ nodes - 1 - k = field k l in
+        let e : getD (highest nodes (length (g .children 0))) k none ≡ nodes - 1 - k = highest-at nodes (length (g .children 0)) k l in
+        let hole : Represents ns (nodes - 1 - k) (hole-tree (getD (highest nodes (length (g .children 0))) k none) (child g 0 k)) = (
+          e, hole-used k l, rw (made .hole k l) refl, rw (made .hole k l) refl, rw (made .hole k l) refl, rw (made .hole k l) refl, rw (made .hole k l) refl
+        ) in
+        subst (λ (i : ℕ). Represents ns i (hole-at-place g 0 (highest nodes (length (g .children 0))) k)) (sym number)
+        (subst (λ (t : Tree). Represents ns (nodes - 1 - k) t) (sym at-k) hole)
+    | inr l ↦
+        let past = hole-trees-past (highest nodes (length (g .children 0))) (g .children 0) k l in
+        subst (λ (t : Tree). Represents ns (child-field (at ns 0) k) t) (sym past) (no-field k l h)
+  ]
+
+  pub made-tree : let new = highest nodes (length (g .children 0)) in Represents ns 0 (node 0 0 (pos 0) (hole-at-place g 0 new 0) (hole-at-place g 0 new 1) (hole-at-place g 0 new 2))
+  made-tree = (refl, start-used, rw (made .start-is) refl, rw (made .start-is) refl, hole-hangs 0 (omega arith), hole-hangs 1 (omega arith), hole-hangs 2 (omega arith))
