@@ -1,0 +1,2 @@
+pub mod Freshness
+pub mod Blanking
