@@ -1,2 +1,4 @@
+pub mod Freshness
+pub mod Blanking
 pub mod Discarding
 pub mod Making

@@ -2,5 +2,7 @@
 ghost use Prim.Native.Nat.{ℕ};
 ghost use Rattle.edit.specs.Edits.{Inserted, Retyped, CutOut, Pasted, Exchanged};
 pub mod fault;
+pub mod fresh;
+pub mod rows;
 
 pub use fault::EditFault;
