@@ -2,3 +2,5 @@ pub mod Freshness
 pub mod Blanking
 pub mod Discarding
 pub mod Making
+pub mod Listing
+pub mod Starting

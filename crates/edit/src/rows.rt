@@ -3,7 +3,7 @@ ghost use mathlib.Core.List.{[], _∷_};
 ghost use mathlib.Core.Path.{_≡_};
 ghost use Prim.Native.Nat.{_+_, _*_, _≤_, _<_};
 ghost use lib.ListN.{length, set};
-ghost use Rattle.edit.specs.Memory.{Blanked};
+ghost use Rattle.edit.specs.Memory.{Blanked, BlankedFirst};
 use grammar::Figure;
 use grammar::Language;
 
@@ -26,4 +26,15 @@ pub fn blank_node<L: Language>(values: &mut [L::Row], n: u16)
     put_row(values, first + 1, row);
     put_row(values, first + 2, row);
     put_row(values, first + 3, row);
+}
+
+// Makes the first values blank, some count of them.
+pub(crate) fn blank_first<L: Language>(values: &mut [L::Row], count: usize)
+    requires { ⌜ count ≤ length (now values) ⌝ }
+    ensures { λ _. ⌜ BlankedFirst (λ row. Value·Figure .means (Value·Figure .reads row)) (Value·Figure .nothing) count (now (values .entry)) (now (values .exit)) ⌝ }
+{
+    let row = L::Value::blank().store();
+    for f in 0..count {
+        put_row(values, f, row);
+    }
 }
