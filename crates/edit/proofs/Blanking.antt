@@ -10,7 +10,7 @@ use Rattle.table.specs.Represents.{In}
 use Rattle.table.proofs.Places.{in-first, in-second, in-either}
 use Rattle.table.proofs.Reading.{below-or-not}
 use Rattle.table.proofs.Replaced.{equal-or-not}
-use Rattle.edit.specs.Memory.{Blanked}
+use Rattle.edit.specs.Memory.{Blanked, BlankedFirst}
 
 -- a number stands in a list or not
 pub in-or-not : (n : ℕ) (xs : List ℕ) → In n xs ⊎ (In n xs → ⊥)
@@ -88,3 +88,17 @@ module _ {R M : Type 0} (meaning : R → M) (nothing : M) where
       let three = stored-more row first 2 v v₂ v₃ (omega arith) two e₃ in
       let four = stored-more row first 3 v v₃ v₄ (omega arith) three e₄ in
       blanked-stored n row v v₄ blank (subst (λ (i : ℕ). Stored row i 4 v v₄) is four)
+
+-- the first values, with a row that means nothing stored in them
+pub blanked-first : {R M : Type 0} (meaning : R → M) (nothing : M) (row : R) (count end : ℕ) (before after : List R) → meaning row ≡ nothing → count ≡ end → Stored row 0 end before after → BlankedFirst meaning nothing count before after
+blanked-first meaning nothing row count end before after blank e stored = record {
+  many = stored .many;
+  blank = λ f d h. ap meaning (stored .there f d (omega arith) (omega arith)) ∙ blank;
+  same = λ f d h. stored .higher f d (omega arith);
+}
+
+-- one more of them
+pub first-more : {R : Type 0} (row : R) (count : ℕ) (v w w′ : List R) → count < length v → Stored row 0 count v w → w′ ≡ set w count row → Stored row 0 (count + 1) v w′
+first-more row count v w w′ room so-far e =
+    let z : 0 + count ≡ count = omega arith in
+    stored-more row 0 count v w w′ (omega arith) so-far (e ∙ ap (λ i. set w i row) (sym z))

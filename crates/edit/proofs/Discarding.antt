@@ -21,7 +21,9 @@ use Rattle.table.proofs.Members.{member-under}
 use Rattle.table.proofs.Frame.{same-record-kept, framed}
 use Rattle.table.proofs.Replaced.{equal-or-not}
 use Rattle.edit.specs.Fresh.{free-record}
+use Rattle.edit.specs.Memory.{SameFrom}
 use Rattle.edit.specs.Edits.{Discarded}
+use Rattle.edit.specs.Calls.{DiscardWork}
 
 -- a free node's record is blank
 pub free-is-blank : (nd : Node) → nd ≡ free-record → Blank nd
@@ -145,3 +147,14 @@ module _ (g : Grammar) (ns ns′ : List Node) (top : ℕ) (sheet : Sheet g ns) (
 
   pub sheet-tree : (t : Tree) → Represents ns 0 t → Represents ns′ 0 t
   sheet-tree t = other-tree 0 t (start-parent sheet) (λ e. away .1 (sym e))
+
+  -- what discard leaves, where the clipping's nodes were freed
+  pub discard-work : {R M : Type 0} (meaning : R → M) (nothing : M) (values : List R) (waiting waiting′ : List ℕ) → SameFrom (length ns) waiting waiting′ → DiscardWork g meaning nothing ns values ns′ values top waiting waiting′
+  discard-work meaning nothing values waiting waiting′ kept = record {
+    records = done;
+    same-values = refl;
+    same-waiting = kept;
+    sheet = still-sheet;
+    sheet-tree = sheet-tree;
+    clippings = λ r t root other. other-tree r t (root .2) other;
+  }

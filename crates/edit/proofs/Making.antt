@@ -3,7 +3,7 @@ use mathlib.Core.Path.{_≡_, refl, sym, subst, ap, _∙_}
 use mathlib.Core.Bool.{Bool, true, false}
 use mathlib.Core.List.{List, [], _∷_}
 use mathlib.Core.Logic.{_⊎_, inl, inr}
-use Prim.Native.Nat.{ℕ, zero, suc, _+_, _-_, _≤_, _<_}
+use Prim.Native.Nat.{ℕ, zero, suc, _+_, _-_, _*_, _≤_, _<_}
 use native.Mathlib.Omega.{arith}
 use lib.IntN.{pos}
 use lib.ListN.{length, getD}
@@ -19,8 +19,9 @@ use Rattle.table.specs.Sheets.{Sheet, Good, InOrder, ChildAt, OneChildOf, Hangs
 use Rattle.table.specs.Represents.{Represents}
 use Rattle.table.proofs.Reading.{below-or-not, past-the-end}
 use Rattle.edit.specs.Fresh.{hole-record, three, free-record}
+use Rattle.edit.specs.Memory.{BlankedFirst}
 use Rattle.edit.specs.Edits.{highest, Made}
-use Rattle.edit.specs.Calls.{hole-tree, hole-trees, hole-at-place}
+use Rattle.edit.specs.Calls.{hole-tree, hole-trees, hole-at-place, MakeWork}
 use Rattle.edit.proofs.Discarding.{free-is-blank}
 
 -- the highest numbers by place, and none past them
@@ -172,3 +173,14 @@ module _ (g : Grammar) (text : ℕ → List Segment) (limits : Limits g text) (n
 
   pub made-tree : let new = highest nodes (length (g .children 0)) in Represents ns 0 (node 0 0 (pos 0) (hole-at-place g 0 new 0) (hole-at-place g 0 new 1) (hole-at-place g 0 new 2))
   made-tree = (refl, start-used, rw (made .start-is) refl, rw (made .start-is) refl, hole-hangs 0 (omega arith), hole-hangs 1 (omega arith), hole-hangs 2 (omega arith))
+
+-- what make leaves, where its records were made in a table as long and its values blanked
+pub make-work : {R M : Type 0} (g : Grammar) (text : ℕ → List Segment) → Limits g text → (meaning : R → M) (nothing : M) (before middle after : List Node) (values values′ : List R) → length before ≤ 1000 → suc (length (g .children 0)) ≤ length before → length middle ≡ length before → Made g (length middle) after → BlankedFirst meaning nothing (4 * length after) values values′ → MakeWork g meaning nothing before values after values′
+make-work g text limits meaning nothing before middle after values values′ few room as-long made blank =
+    let made′ : Made g (length before) after = subst (λ (n : ℕ). Made g n after) as-long made in
+    record {
+      records = made′;
+      blanked = subst (λ (n : ℕ). BlankedFirst meaning nothing (4 * n) values values′) (made′ .many) blank;
+      sheet = made-sheet g text limits (length before) after made′ few room;
+      tree = made-tree g text limits (length before) after made′ few room;
+    }
