@@ -6,7 +6,7 @@ use mathlib.Core.Logic.{_⊎_, inl, inr}
 use Prim.Native.Nat.{ℕ, zero, suc, _+_, _-_, _*_, _≤_, _<_}
 use native.Mathlib.Omega.{arith}
 use lib.IntN.{pos}
-use lib.ListN.{length, getD}
+use lib.ListN.{length, getD, take}
 use Rattle.grammar.specs.Grammar.{Grammar, child}
 use Rattle.grammar.specs.Limits.{Limits}
 use Rattle.grammar.specs.Text.{Segment}
@@ -18,11 +18,11 @@ use Rattle.table.specs.Climbing.{Climb, ends, goes-on}
 use Rattle.table.specs.Sheets.{Sheet, Good, InOrder, ChildAt, OneChildOf, Hangs, root, below}
 use Rattle.table.specs.Represents.{Represents}
 use Rattle.table.proofs.Reading.{below-or-not, past-the-end}
-use Rattle.edit.specs.Fresh.{hole-record, three, free-record}
+use Rattle.edit.specs.Fresh.{free-below, new-nodes, hole-record, three, free-record}
 use Rattle.edit.specs.Memory.{BlankedFirst}
 use Rattle.edit.specs.Edits.{highest, Made}
 use Rattle.edit.specs.Calls.{hole-tree, hole-trees, hole-at-place, MakeWork}
-use Rattle.edit.proofs.Discarding.{free-is-blank}
+use Rattle.edit.proofs.FreedClipping.{free-is-blank}
 
 -- the highest numbers by place, and none past them
 pub highest-at : (n count k : ℕ) → k < count → getD (highest n count) k none ≡ n - 1 - k
@@ -184,3 +184,20 @@ make-work g text limits meaning nothing before middle after values values′ few
       sheet = made-sheet g text limits (length before) after made′ few room;
       tree = made-tree g text limits (length before) after made′ few room;
     }
+
+-- a free node comes before the free nodes below it
+step : (b : Bool) (n : ℕ) (xs : List ℕ) → b ≡ false → elim b [ true ↦ xs | false ↦ n ∷ xs ] ≡ n ∷ xs
+step true n xs e = absurd (let z : _≡_ {A = ℕ} 0 1 = cc in omega arith)
+step false n xs e = refl
+
+-- The highest numbers are the new nodes of a table in which node 0 is used and all others are free.
+pub highest-are-new : (ns : List Node) → at ns 0 .used ≡ true → ((n : ℕ) → 0 < n → n < length ns → at ns n .used ≡ false) → (k : ℕ) → k < length ns → highest (length ns) k ≡ new-nodes ns k
+highest-are-new ns start free k h = go (length ns) k h (omega arith)
+  where
+    go : (n k : ℕ) → k < n → n ≤ length ns → highest n k ≡ take k (free-below ns n)
+    go zero k h l = absurd (omega arith)
+    go (suc n) zero h l = refl
+    go (suc n) (suc k) h l =
+        let e : suc n - 1 ≡ n = omega arith in
+        let next : free-below ns (suc n) ≡ n ∷ free-below ns n = step (at ns n .used) n (free-below ns n) (free n (omega arith) (omega arith)) in
+        ap (λ i. i ∷ highest i k) e ∙ ap (λ xs. n ∷ xs) (go n k (omega arith) (omega arith)) ∙ ap (λ xs. take (suc k) xs) (sym next)

@@ -1,7 +1,7 @@
 use native.Mathlib.Omega.{arith}
 use Rattle.edit.proofs.Listing.{gathered-more, gathered-not}
-use Rattle.edit.proofs.discard.gather.Needs as need
-use Rattle.edit.proofs.discard.gather.Needs.{then-climbs-to, else-climbs-to}
+use Rattle.edit.proofs.discarding.gather.Needs as need
+use Rattle.edit.proofs.discarding.gather.Needs.{then-climbs-to, else-climbs-to}
 
 pub loop-n-again : need.loop-n-again
 loop-n-again c = elim (c .if-climbs-to .came) [

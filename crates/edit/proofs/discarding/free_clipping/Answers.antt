@@ -1,7 +1,7 @@
 use native.Mathlib.Omega.{arith}
 use Rattle.table.proofs.Climbs.{climb-used}
 use Rattle.edit.proofs.Listing.{clipping-freed}
-use Rattle.edit.proofs.discard.free_clipping.Needs as need
+use Rattle.edit.proofs.discarding.free_clipping.Needs as need
 
 pub free-listed-requires : need.free-listed-requires
 free-listed-requires c κs =

@@ -1,5 +1,5 @@
 use Rattle.edit.proofs.Starting.{made-of}
-use Rattle.edit.proofs.make.put_start.Needs as need
+use Rattle.edit.proofs.making.put_start.Needs as need
 
 pub returns : need.returns
 returns g c =

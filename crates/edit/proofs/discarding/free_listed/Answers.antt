@@ -1,6 +1,6 @@
 use mathlib.Core.Path.{refl}
 use Rattle.edit.proofs.Listing.{freed-more}
-use Rattle.edit.proofs.discard.free_listed.Needs as need
+use Rattle.edit.proofs.discarding.free_listed.Needs as need
 
 pub loop-k-again : need.loop-k-again
 loop-k-again c =

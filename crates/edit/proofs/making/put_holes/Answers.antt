@@ -1,7 +1,7 @@
 use native.Mathlib.Omega.{arith}
 use Rattle.table.proofs.Children.{few-children}
 use Rattle.edit.proofs.Starting.{holes-again}
-use Rattle.edit.proofs.make.put_holes.Needs as need
+use Rattle.edit.proofs.making.put_holes.Needs as need
 
 pub index-children-k : need.index-children-k
 index-children-k g c =
