@@ -141,9 +141,9 @@ module _ (g : Grammar) (ns ns′ : List Node) (top : ℕ) (sheet : Sheet g ns) (
   pub other-tree : (r : ℕ) (t : Tree) → at ns r .parent ≡ none → (r ≡ top → ⊥) → Represents ns r t → Represents ns′ r t
   other-tree r t e other rep =
       framed ns ns′ t r rep (λ m i.
-        let c : Climb ns r m = under-climb e (member-under g ns sheet few m t r rep i) in
-        let s : Stays m = (climb-used ns r m c, elsewhere r m other c) in
-        same-record-kept ns ns′ m (sym (same m s)) (used m s))
+      let c : Climb ns r m = under-climb e (member-under g ns sheet few m t r rep i) in
+      let s : Stays m = (climb-used ns r m c, elsewhere r m other c) in
+      same-record-kept ns ns′ m (sym (same m s)) (used m s))
 
   pub sheet-tree : (t : Tree) → Represents ns 0 t → Represents ns′ 0 t
   sheet-tree t = other-tree 0 t (start-parent sheet) (λ e. away .1 (sym e))

@@ -84,8 +84,8 @@ module _ (slots : List ℕ) (before : List Node) where
           there (getD slots j 0) (q .1) ∙ so-far .freed j earlier
     ];
     others = λ m out.
-      there m (λ e. out (k, omega arith, named ∙ sym e))
-      ∙ so-far .others m (λ p. out (p .0, omega (arith, p .1), p .2));
+        there m (λ e. out (k, omega arith, named ∙ sym e))
+        ∙ so-far .others m (λ p. out (p .0, omega (arith, p .1), p .2));
   }
     where
       here : at (set after n free-record) n ≡ free-record
@@ -100,8 +100,8 @@ clipping-freed root count before after waiting waiting′ listed done = record {
   records = record {
     many = done .many;
     freed = λ n c.
-      let p : Listed waiting′ count n = listed .all n (climb-used before root n c .0) c in
-      ap (λ i. at after i) (sym (p .2)) ∙ done .freed (p .0) (p .1);
+        let p : Listed waiting′ count n = listed .all n (climb-used before root n c .0) c in
+        ap (λ i. at after i) (sym (p .2)) ∙ done .freed (p .0) (p .1);
     others = λ n out. done .others n (λ p. out (subst (λ (i : ℕ). Climb before root i) (p .2) (listed .climbs (p .0) (p .1))));
   };
   same-waiting = listed .rest;

@@ -106,11 +106,11 @@ module _ (g : Grammar) (text : ℕ → List Segment) (limits : Limits g text) (n
       inside = rw (made .start-is) h;
       named = field k h;
       alone = λ j i e. (
-        let i′ : j < length (g .children 0) = rw (made .start-is) at i in
-        let f : child-field (at ns 0) j ≡ nodes - 1 - j = field j i′ in
-        let e′ : nodes - 1 - j ≡ nodes - 1 - k = sym f ∙ e in
-        omega arith
-      );
+          let i′ : j < length (g .children 0) = rw (made .start-is) at i in
+          let f : child-field (at ns 0) j ≡ nodes - 1 - j = field j i′ in
+          let e′ : nodes - 1 - j ≡ nodes - 1 - k = sym f ∙ e in
+          omega arith
+          );
     }
 
     hole-in-order : InOrder g ns (nodes - 1 - k)
@@ -162,7 +162,13 @@ module _ (g : Grammar) (text : ℕ → List Segment) (limits : Limits g text) (n
         let number : child-field (at ns 0) k ≡ nodes - 1 - k = field k l in
         let e : getD (highest nodes (length (g .children 0))) k none ≡ nodes - 1 - k = highest-at nodes (length (g .children 0)) k l in
         let hole : Represents ns (nodes - 1 - k) (hole-tree (getD (highest nodes (length (g .children 0))) k none) (child g 0 k)) = (
-          e, hole-used k l, rw (made .hole k l) refl, rw (made .hole k l) refl, rw (made .hole k l) refl, rw (made .hole k l) refl, rw (made .hole k l) refl
+          e,
+          hole-used k l,
+          rw (made .hole k l) refl,
+          rw (made .hole k l) refl,
+          rw (made .hole k l) refl,
+          rw (made .hole k l) refl,
+          rw (made .hole k l) refl,
         ) in
         subst (λ (i : ℕ). Represents ns i (hole-at-place g 0 (highest nodes (length (g .children 0))) k)) (sym number)
         (subst (λ (t : Tree). Represents ns (nodes - 1 - k) t) (sym at-k) hole)

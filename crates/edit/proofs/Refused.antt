@@ -17,7 +17,7 @@ use Rattle.edit.specs.Calls.{Edited, WaitingKept}
 module _ {R M : Type 0} (g : Grammar) (meaning : R → M) (nothing : M) (nodes : List Node) (values : List R) where
   -- The callee's checks come after some that are met, and before others.
   pub refused : {A : Type 0} (front : List (Check EditFault)) (cs : List (Check TableFault)) (back : List (Check EditFault)) (Work : A → Type 0) (e : TableFault) (r : Result A EditFault)
-    → Met front → First cs e → ErrBy r (λ f. f ≡ Table e) → Edited g meaning nothing nodes values nodes values (front ++ (lifted Table cs ++ back)) Work r
+      → Met front → First cs e → ErrBy r (λ f. f ≡ Table e) → Edited g meaning nothing nodes values nodes values (front ++ (lifted Table cs ++ back)) Work r
   refused front cs back Work e (Ok a) m w k = absurd k
   refused {A} front cs back Work e (Err f) m w k = (passed-on Table {A = A} front cs back e (Err f) m w k, refl, refl)
 

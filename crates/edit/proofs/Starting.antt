@@ -54,8 +54,8 @@ module _ (g : Grammar) (before : List Node) where
           getD-set-other after (length before - 1 - k) (length before - 1 - j) nd nowhere other ∙ so-far .hole j less
     ];
     others = λ n h.
-      let other : n ≢ length before - 1 - k = omega arith in
-      getD-set-other after (length before - 1 - k) n nd nowhere other ∙ so-far .others n (omega arith);
+        let other : n ≢ length before - 1 - k = omega arith in
+        getD-set-other after (length before - 1 - k) n nd nowhere other ∙ so-far .others n (omega arith);
   }
 
   -- the same as the code has it: the language was asked for the children's symbols

@@ -45,11 +45,21 @@ fn put_start<L: Language>(language: &L, nodes: &mut [Node])
     ensures { λ _. ⌜ Made (grammar (now (language .entry))) (length (now (nodes .entry))) (now (nodes .exit)) ⌝ }
 {
     let children = put_holes(language, nodes);
-    nodes[0] = Node { used: true, production: 0, literal: 0, parent: NONE, children };
+    nodes[0] = Node {
+        used: true,
+        production: 0,
+        literal: 0,
+        parent: NONE,
+        children,
+    };
 }
 
 // Makes a sheet of all nodes and values, whatever they held: production 0 at node 0, over holes, and every other node free.
-pub fn make<L: Language>(language: &L, nodes: &mut [Node], values: &mut [L::Row]) -> Result<(), EditFault>
+pub fn make<L: Language>(
+    language: &L,
+    nodes: &mut [Node],
+    values: &mut [L::Row],
+) -> Result<(), EditFault>
     ensures { λ r. ⌜ MakeCall (grammar (now (language .entry))) (λ row. Value·Figure .means (Value·Figure .reads row)) (Value·Figure .nothing) (now (nodes .entry)) (now (values .entry)) (now (nodes .exit)) (now (values .exit)) r ⌝ }
 {
     check_memory(language, nodes.len(), values.len())?;

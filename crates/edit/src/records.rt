@@ -8,12 +8,24 @@ use table::Node;
 pub(crate) fn free_node() -> Node
     ensures { λ r. ⌜ r ≡ free-record ⌝ }
 {
-    Node { used: false, production: 0, literal: 0, parent: NONE, children: [NONE, NONE, NONE] }
+    Node {
+        used: false,
+        production: 0,
+        literal: 0,
+        parent: NONE,
+        children: [NONE, NONE, NONE],
+    }
 }
 
 // The record of a hole of a symbol under a parent.
 pub(crate) fn hole_node(symbol: u8, parent: u16) -> Node
     ensures { λ r. ⌜ r ≡ hole-record symbol parent ⌝ }
 {
-    Node { used: true, production: symbol, literal: 0, parent, children: [NONE, NONE, NONE] }
+    Node {
+        used: true,
+        production: symbol,
+        literal: 0,
+        parent,
+        children: [NONE, NONE, NONE],
+    }
 }

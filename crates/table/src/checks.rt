@@ -21,7 +21,11 @@ fn is_sized(nodes: usize, values: usize) -> bool
 }
 
 // What every call checks first: the language, and the sizes of the lent memory.
-pub fn check_memory<L: Language>(language: &L, nodes: usize, values: usize) -> Result<(), TableFault>
+pub fn check_memory<L: Language>(
+    language: &L,
+    nodes: usize,
+    values: usize,
+) -> Result<(), TableFault>
     ensures { λ r. ⌜ Answer (memory (grammar (now (language .entry))) nodes values) r ⌝ }
 {
     test(language)?;

@@ -24,5 +24,5 @@ returns g c =
     let room : suc (length (g .L·Language .grammar (c .args .language .now) .children 0)) ≤ length (c .args .nodes .now) = rw (← c .children .ensures) (omega arith) in (
       (met .0, (met .1 .0, (room, tt))),
       make-work (g .L·Language .grammar (c .args .language .now)) _ (g .L·Language .limits (c .args .language .now)) _ _ (c .args .nodes .now) (c .free-all .last .nodes) (c .put-start .last .nodes)
-      (c .args .values .now) (c .blank-first .last .values) (met .1 .0 .few) room (c .free-all .kept .nodes) (c .put-start .ensures) (c .blank-first .ensures),
+          (c .args .values .now) (c .blank-first .last .values) (met .1 .0 .few) room (c .free-all .kept .nodes) (c .put-start .ensures) (c .blank-first .ensures),
     )
