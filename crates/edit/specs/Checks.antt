@@ -1,7 +1,7 @@
 -- What each edit checks, in the order of its checks. Each line is a condition that is wanted, and the fault that comes where it does not hold.
 use mathlib.Core.Path.{_≡_}
 use mathlib.Core.List.{List, [], _∷_, _++_}
-use Prim.Native.Nat.{ℕ, _≤_, _<_}
+use Prim.Native.Nat.{ℕ, suc, _≤_, _<_}
 use lib.Dec.{T}
 use lib.IntN.{ℤ}
 use lib.ListN.{length}
@@ -11,7 +11,7 @@ use Rattle.table.specs.declared.fault.TableFault.{TableFault}
 use Rattle.table.specs.Nodes.{at}
 use Rattle.table.specs.Sheets.{Hole, ClippingRoot}
 use Rattle.table.specs.Refusals.{Check, want, lifted}
-use Rattle.table.specs.Checks.{beginning, on-sheet, long-enough}
+use Rattle.table.specs.Checks.{memory, beginning, on-sheet, long-enough}
 use Rattle.edit.specs.declared.fault.EditFault.{EditFault}
 use Rattle.edit.specs.declared.fault.EditFault.the-variants.{Table, NoClipping, WrongPlace, WrongSymbol, LiteralRefused, TooFewNodes}
 use Rattle.edit.specs.Fresh.{free-numbers}
@@ -77,3 +77,7 @@ module _ (g : Grammar) (ns : List Node) (values : ℕ) where
   abbrev pub discard-checks : ℕ → ℕ → List (Check EditFault)
   discard-checks root waiting =
       lifted Table (beginning g ns values ++ (long-enough waiting (length ns) ∷ [])) ++ (clipping-at ns root ∷ [])
+
+  -- make needs no sheet: every node counts as free
+  abbrev pub make-checks : List (Check EditFault)
+  make-checks = lifted Table (memory g (length ns) values) ++ (want (suc (length (g .children 0)) ≤ length ns) (TooFewNodes 0) ∷ [])

@@ -1,12 +1,14 @@
 -- What each accepted edit makes of the records. New nodes take the highest free numbers.
 use mathlib.Core.Path.{_≡_}
+use mathlib.Core.Bool.{true}
 use mathlib.Core.List.{List, [], _∷_}
-use Prim.Native.Nat.{ℕ, _<_}
+use Prim.Native.Nat.{ℕ, zero, suc, _+_, _-_, _<_}
 use lib.IntN.{ℤ, pos}
 use lib.ListN.{length, getD, set}
 use Rattle.grammar.specs.Grammar.{Grammar, child}
 use Rattle.table.specs.declared.node.Node.{Node}
 use Rattle.table.specs.Nodes.{none, at, child-field}
+use Rattle.table.specs.Climbing.{Climb}
 use Rattle.edit.specs.Memory.{OnlyRecords}
 use Rattle.edit.specs.Fresh.{new-nodes, hole-record, three, free-record, with-parent, with-literal}
 
@@ -58,3 +60,21 @@ pub record Exchanged (root node : ℕ) (before after : List Node) : Type 0 where
   pub node-is : at after node ≡ with-parent (at before node) none
   pub link : Relinked (at before node .parent) node root before after
   pub others : OnlyRecords (node ∷ root ∷ at before node .parent ∷ []) before after
+
+-- Discard frees exactly the nodes of the clipping: those whose climb ends at its root.
+pub record Discarded (root : ℕ) (before after : List Node) : Type 0 where
+  pub many : length after ≡ length before
+  pub freed : (n : ℕ) → Climb before root n → at after n ≡ free-record
+  pub others : (n : ℕ) → (Climb before root n → ⊥) → at after n ≡ at before n
+
+-- the highest numbers of a table with n nodes, the highest first
+abbrev pub highest : ℕ → ℕ → List ℕ
+highest n zero = []
+highest n (suc k) = (n - 1) ∷ highest (n - 1) k
+
+-- Make leaves node 0 with production 0 over holes at the highest numbers, the first child at the highest, and every other node free.
+pub record Made (g : Grammar) (nodes : ℕ) (after : List Node) : Type 0 where
+  pub many : length after ≡ nodes
+  pub start-is : at after 0 ≡ record { used = true; production = 0; literal = pos 0; parent = none; children = three (highest nodes (length (g .children 0))) }
+  pub hole : (k : ℕ) → k < length (g .children 0) → at after (nodes - 1 - k) ≡ hole-record (child g 0 k) 0
+  pub free : (n : ℕ) → 0 < n → n + length (g .children 0) < nodes → at after n ≡ free-record

@@ -1,7 +1,11 @@
 // The work of the edits on records and rows.
-ghost use Prim.Native.Nat.{ℕ};
-ghost use Rattle.edit.specs.Edits.{Inserted, Retyped, CutOut, Pasted, Exchanged};
-
+pub mod discarding;
 pub mod fault;
+pub mod fresh;
+pub mod making;
+mod records;
+pub mod rows;
 
+pub use discarding::discard;
 pub use fault::EditFault;
+pub use making::make;

@@ -28,10 +28,13 @@ pub record Sized (nodes values : ℕ) : Type 0 where
   pub few : nodes ≤ 1000
   pub room : 4 * nodes ≤ values
 
--- what every call checks first, in this order
+-- what every call checks first: the language, and the sizes of the lent memory
+abbrev pub memory : Grammar → ℕ → ℕ → List (Check TableFault)
+memory g nodes values = lifted Language (language-checks g) ++ (want (Sized nodes values) Size ∷ [])
+
+-- and then, where it works on a sheet, that the nodes form one
 abbrev pub beginning : Grammar → List Node → ℕ → List (Check TableFault)
-beginning g ns values =
-    lifted Language (language-checks g) ++ (want (Sized (length ns) values) Size ∷ want (Sheet g ns) NoSheet ∷ [])
+beginning g ns values = memory g (length ns) values ++ (want (Sheet g ns) NoSheet ∷ [])
 
 -- node n is on the sheet
 abbrev pub on-sheet : List Node → ℕ → Check TableFault

@@ -4,7 +4,7 @@ ghost use Prim.Native.Nat.{ℕ, _≤_};
 ghost use lib.ListN.{length};
 ghost use Rattle.std.specs.Orderings.{When};
 ghost use Rattle.table.specs.Refusals.{Answer};
-ghost use Rattle.table.specs.Checks.{Sized, beginning, on-sheet, long-enough};
+ghost use Rattle.table.specs.Checks.{Sized, memory, beginning, on-sheet, long-enough};
 use crate::climb::is_on_sheet;
 use crate::fault::FromLanguage;
 use crate::fault::TableFault;
@@ -20,14 +20,26 @@ fn is_sized(nodes: usize, values: usize) -> bool
     1 <= nodes && nodes <= 1000 && 4 * nodes <= values
 }
 
-// What every call checks first: the language, the sizes, and that the nodes form a sheet.
+// What every call checks first: the language, and the sizes of the lent memory.
+pub fn check_memory<L: Language>(
+    language: &L,
+    nodes: usize,
+    values: usize,
+) -> Result<(), TableFault>
+    ensures { λ r. ⌜ Answer (memory (grammar (now (language .entry))) nodes values) r ⌝ }
+{
+    test(language)?;
+    if !is_sized(nodes, values) {
+        return Err(TableFault::Size);
+    }
+    Ok(())
+}
+
+// What every call on a sheet checks first: the language, the sizes, and that the nodes form a sheet.
 pub fn begin<L: Language>(language: &L, nodes: &[Node], values: usize) -> Result<(), TableFault>
     ensures { λ r. ⌜ Answer (beginning (grammar (now (language .entry))) (now (nodes .entry)) values) r ⌝ }
 {
-    test(language)?;
-    if !is_sized(nodes.len(), values) {
-        return Err(TableFault::Size);
-    }
+    check_memory(language, nodes.len(), values)?;
     if !is_sheet(language, nodes) {
         return Err(TableFault::NoSheet);
     }

@@ -10,6 +10,7 @@ pub mod trees;
 
 pub use checks::begin;
 pub use checks::check_buffer;
+pub use checks::check_memory;
 pub use checks::check_on_sheet;
 pub use climb::is_clipping_root;
 pub use climb::is_on_sheet;

@@ -1,8 +1,14 @@
-use Rattle.std.proofs.shelf.Results.{err-from-errBy}
-use Rattle.table.proofs.Beginning.{failed-test}
+use mathlib.Core.List.{[], _∷_}
+use Rattle.table.specs.Refusals.{want}
+use Rattle.table.specs.Checks.{memory}
+use Rattle.table.specs.Sheets.{Sheet}
+use Rattle.table.specs.declared.fault.TableFault.the-variants.{NoSheet}
+use Rattle.table.proofs.Refusing.{handed-on}
 use Rattle.table.proofs.checks.begin.Needs as need
+use lib.ListN.{length}
 
-pub returns-in-Break-test : need.returns-in-Break-test
-returns-in-Break-test g c =
-    let p = err-from-errBy (c .from-residual .result) (c .from-residual .ensures .1) in
-    rw (p .1, p .2) (failed-test (g .L·Language .grammar (c .args .language .now)) (c .args .nodes .now) (c .args .values) _ (c .in-Break-test .ensures tt))
+pub returns-in-Break-check-memory : need.returns-in-Break-check-memory
+returns-in-Break-check-memory g c =
+    let gr = g .L·Language .grammar (c .args .language .now) in
+    handed-on [] (memory gr (length (c .args .nodes .now)) (c .args .values)) (want (Sheet gr (c .args .nodes .now)) NoSheet ∷ []) _ (c .from-residual .result) tt
+    (c .in-Break-check-memory .ensures tt) (c .from-residual .ensures .1)
