@@ -1,2 +1,3 @@
 pub mod Freshness
 pub mod Blanking
+pub mod Regrowing
