@@ -1,3 +1,5 @@
 pub mod Freshness
 pub mod Blanking
 pub mod Regrowing
+pub mod Editing
+pub mod Relabelling

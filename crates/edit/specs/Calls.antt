@@ -82,3 +82,10 @@ module _ {R M : Type 0} (g : Grammar) (meaning : R → M) (nothing : M) (before 
     pub clipping : ClippingRoot after n
     pub trees : (u : Tree) → Represents before root u → Regrown n u (λ r. r ≡ root → ⊥) before after
     pub handed-out : (t : Tree) → Represents before n t → Represents after n t
+
+  -- What insert and retype answer and leave.
+  abbrev pub InsertCall : {A : Type 0} → ℕ → ℕ → ℤ → Result A EditFault → Type 0
+  InsertCall n p l = Edited (insert-checks g before (length values) n p l) (λ a. InsertWork n p l)
+
+  abbrev pub RetypeCall : {A : Type 0} → ℕ → ℤ → Result A EditFault → Type 0
+  RetypeCall n l = Edited (retype-checks g before (length values) n l) (λ a. RetypeWork n l)

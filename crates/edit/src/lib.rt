@@ -1,8 +1,9 @@
 // The work of the edits on records and rows.
-ghost use Prim.Native.Nat.{ℕ};
-ghost use Rattle.edit.specs.Edits.{Inserted, Retyped, CutOut, Pasted, Exchanged};
+mod checks;
 pub mod fault;
 pub mod fresh;
+pub mod retyping;
 pub mod rows;
 
 pub use fault::EditFault;
+pub use retyping::retype;
