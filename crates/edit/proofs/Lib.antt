@@ -2,4 +2,5 @@ pub mod Freshness
 pub mod Blanking
 pub mod Regrowing
 pub mod Editing
+pub mod Checking
 pub mod Relabelling
