@@ -2,6 +2,7 @@
 mod checks;
 pub mod fault;
 pub mod fresh;
+pub mod inserting;
 pub mod retyping;
 pub mod rows;
 
