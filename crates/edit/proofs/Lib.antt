@@ -3,4 +3,6 @@ pub mod Blanking
 pub mod Regrowing
 pub mod Editing
 pub mod Checking
+pub mod NewNodes
+pub mod Filling
 pub mod Relabelling
