@@ -5,4 +5,5 @@ pub mod Editing
 pub mod Checking
 pub mod NewNodes
 pub mod Filling
+pub mod Filled
 pub mod Relabelling
