@@ -1,4 +1,4 @@
--- Insert's work: a hole that became a production over new holes leaves a sheet, with the new subtree in the hole's place.
+-- Insert's work, from the records that its parts write.
 use mathlib.Core.Bool.{Bool, true, false}
 use mathlib.Core.List.{List, [], _∷_}
 use mathlib.Core.Logic.{_⊎_, inl, inr}
@@ -18,6 +18,7 @@ use Rattle.table.specs.declared.node.Node.{Node}
 use Rattle.table.specs.Nodes.{none, nowhere, at, child-field, Used}
 use Rattle.table.specs.Climbing.{OnSheet}
 use Rattle.table.specs.Sheets.{Sheet, Hole, ChildAt, OneChildOf}
+use Rattle.table.specs.Refusals.{Met}
 use Rattle.table.specs.Represents.{Represents, In}
 use Rattle.table.specs.Testing.{RecordFits}
 use Rattle.table.proofs.Members.{at-most-three}
@@ -26,16 +27,22 @@ use Rattle.table.proofs.Replaced.{equal-or-not}
 use Rattle.table.proofs.Under.{climb-used}
 use Rattle.edit.specs.Memory.{OnlyRecords, Blanked}
 use Rattle.edit.specs.Fresh.{new-nodes, free-numbers, hole-record, three, with-production, NewNodes}
-use Rattle.edit.specs.Planting.{Planted, Apart}
-use Rattle.edit.specs.Checks.{Fitting}
+use Rattle.edit.specs.Planting.{Planted, Apart, Roomy}
+use Rattle.edit.specs.Checks.{Fitting, insert-checks}
 use Rattle.edit.specs.Edits.{Inserted, HolesUnder}
 use Rattle.edit.specs.Calls.{Regrown, InsertWork, hole-tree, hole-trees, hole-at-place}
-use Rattle.edit.proofs.Blanking.{in-or-not}
-use Rattle.edit.proofs.NewNodes.{new-length, new-falling, three-at, place-in, in-at}
-use Rattle.edit.proofs.Regrowing.{NewUnder, OneChanged, sheet-after, trees-after}
+use Rattle.edit.proofs.NewNodes.{new-length, new-falling, three-at, in-at}
+use Rattle.edit.proofs.Filled.{FilledIn, sheet-filled, trees-filled}
 
 never-both : (b : Bool) → b ≡ true → b ≡ false → ⊥
 never-both b t f = let z : _≡_ {A = ℕ} 0 1 = cc in omega arith
+
+all-taken : (xs : List ℕ) → length xs ≤ 3 → take (length xs) (three xs) ≡ xs
+all-taken [] h = refl
+all-taken (x ∷ []) h = refl
+all-taken (x ∷ y ∷ []) h = refl
+all-taken (x ∷ y ∷ z ∷ []) h = refl
+all-taken (x ∷ y ∷ z ∷ w ∷ xs) h = absurd (omega arith)
 
 -- the new nodes of a production's children, as the code has them
 module _ (ns : List Node) (count : ℕ) (fields : List ℕ) (some : count ≤ 3) (new : NewNodes ns count fields) where
@@ -67,39 +74,49 @@ module _ (ns : List Node) (count : ℕ) (fields : List ℕ) (some : count ≤ 3)
     different = λ j k l h e. let same = new-alone j k (omega arith) h (sym (field-is j (omega arith)) ∙ sym e ∙ field-is k (omega arith)) in omega arith;
   }
 
+  -- the new nodes are the first child fields
+  pub taken-fields : take count fields ≡ new-nodes ns count
+  taken-fields =
+      let size = new-length ns count (new .enough) in
+      ap (take count) (new .named) ∙ ap (λ k. take k (three (new-nodes ns count))) (sym size) ∙ all-taken (new-nodes ns count) (omega (arith, size, some))
+
+  -- every new node has its four values
+  pub new-roomy : (values : ℕ) → 4 * length ns ≤ values → Roomy values count fields
+  new-roomy values room k h = omega (arith, room, new-apart .inside k h)
+
 module _ (g : Grammar) (text : ℕ → List Segment) (limits : Limits g text) (before mid after : List Node) (n p : ℕ) (l : ℤ) (fields : List ℕ)
   (sheet : Sheet g before) (few : length before ≤ 1000) (on : OnSheet before n) (hole : Hole g (at before n .production)) (fitting : Fitting g (at before n .production) p) (accepted : T (g .accepts p l))
   (new : NewNodes before (length (g .children p)) fields) (written : mid ≡ set before n (with-production (at before n) p l fields)) (planted : Planted (g .children p) n fields (length (g .children p)) mid after) where
 
 
-  some : length (g .children p) ≤ 3
+  pub some : length (g .children p) ≤ 3
   some = limits .each p (fitting .0) .few-children
 
-  here : Used before n
+  pub here : Used before n
   here = climb-used on
 
   -- no new node is node n
-  other-than-n : (k : ℕ) → k < length (g .children p) → getD (new-nodes before (length (g .children p))) k none ≡ n → ⊥
+  pub other-than-n : (k : ℕ) → k < length (g .children p) → getD (new-nodes before (length (g .children p))) k none ≡ n → ⊥
   other-than-n k h e = never-both (at before n .used) (here .1) (subst (λ (i : ℕ). at before i .used ≡ false) e (new-free before (length (g .children p)) fields some new k h))
 
-  at-n : at after n ≡ with-production (at before n) p l (three (new-nodes before (length (g .children p))))
+  pub at-n : at after n ≡ with-production (at before n) p l (three (new-nodes before (length (g .children p))))
   at-n =
       planted .same n (λ k h e. other-than-n k h (sym (e ∙ field-is before (length (g .children p)) fields some new k (omega (arith, h, some)))))
       ∙ ap (λ ns. at ns n) written ∙ getD-set-same before n (with-production (at before n) p l fields) nowhere (here .0) ∙ ap (with-production (at before n) p l) (new .named)
 
-  at-hole : (k : ℕ) → k < length (g .children p) → at after (getD (new-nodes before (length (g .children p))) k none) ≡ hole-record (child g p k) n
+  pub at-hole : (k : ℕ) → k < length (g .children p) → at after (getD (new-nodes before (length (g .children p))) k none) ≡ hole-record (child g p k) n
   at-hole k h =
       ap (at after) (sym (field-is before (length (g .children p)) fields some new k (omega (arith, h, some)))) ∙ planted .hole k h ∙ ap (λ s. hole-record s n) (getD-default (g .children p) k 0 (g .symbols) h)
 
-  at-same : (x : ℕ) → (In x (n ∷ new-nodes before (length (g .children p))) → ⊥) → at after x ≡ at before x
+  pub at-same : (x : ℕ) → (In x (n ∷ new-nodes before (length (g .children p))) → ⊥) → at after x ≡ at before x
   at-same x out =
       planted .same x (λ k h e. out (inr (subst (λ (i : ℕ). In i (new-nodes before (length (g .children p)))) (sym (e ∙ field-is before (length (g .children p)) fields some new k (omega (arith, h, some)))) (in-at (new-nodes before (length (g .children p))) k (new-place before (length (g .children p)) fields some new k h)))))
       ∙ ap (λ ns. at ns x) written ∙ getD-set-other before n x (with-production (at before n) p l fields) nowhere (λ e. out (inl e))
 
-  many : length after ≡ length before
+  pub many : length after ≡ length before
   many = planted .many ∙ ap length written ∙ length-set before n (with-production (at before n) p l fields)
 
-  pub inserted : Inserted g n p l before after
+  abbrev pub inserted : Inserted g n p l before after
   inserted = record {
     new = new-nodes before (length (g .children p));
     new-are = refl;
@@ -107,3 +124,52 @@ module _ (g : Grammar) (text : ℕ → List Segment) (limits : Limits g text) (b
     holes = record { hole = at-hole };
     others = record { many = many; same = at-same };
   }
+
+  filled : FilledIn g before after n p l (new-nodes before (length (g .children p)))
+  filled = record {
+    many = many;
+    size = new-length before (length (g .children p)) (new .enough);
+    was-free = new-free before (length (g .children p)) fields some new;
+    inside = new-inside before (length (g .children p)) fields some new;
+    alone = new-alone before (length (g .children p)) fields some new;
+    node-is = at-n;
+    hole-is = at-hole;
+    same = at-same;
+  }
+
+  pub insert-work : {R M : Type 0} (meaning : R → M) (nothing : M) (values values′ : List R) → Blanked meaning nothing (take (length (g .children p)) fields) values values′ → InsertWork g meaning nothing before values after values′ n p l
+  insert-work meaning nothing values values′ blanked = record {
+    records = inserted;
+    blanked = subst (λ ys. Blanked meaning nothing ys values values′) (taken-fields before (length (g .children p)) fields some new) blanked;
+    sheet = sheet-filled g text limits before after n p l (new-nodes before (length (g .children p))) sheet few on hole fitting accepted filled;
+    trees = trees-filled g text limits before after n p l (new-nodes before (length (g .children p))) sheet few on hole fitting accepted filled;
+  }
+
+-- What insert's parts ask, and what they make together. The literal and the children's symbols come back from the code by other terms.
+module _ (g : Grammar) (text : ℕ → List Segment) (limits : Limits g text) (before : List Node) (room n p : ℕ) (l l′ : ℤ) (same : l′ ≡ l) (fields cs : List ℕ) (cs-are : cs ≡ g .children p) (found : Met (insert-checks g before room n p l′) × NewNodes before (length (g .children p)) fields) where
+  met : Met (insert-checks g before room n p l)
+  met = subst (λ (z : ℤ). Met (insert-checks g before room n p z)) same (found .0)
+
+  few-fields : length (g .children p) ≤ 3
+  few-fields = limits .each p (met .1 .1 .1 .1 .1 .0 .0) .few-children
+
+  pub node-inside : n < length before
+  node-inside = climb-used (met .1 .1 .1 .0) .0
+
+  pub few-symbols : length cs ≤ 3
+  few-symbols = rw cs-are few-fields
+
+  pub fields-apart : (mid : List Node) → length mid ≡ length before → Apart (length mid) (length cs) fields
+  fields-apart mid e = rw (e, cs-are) (new-apart before (length (g .children p)) fields few-fields (found .1))
+
+  pub fields-roomy : Roomy room (length cs) fields
+  fields-roomy = rw cs-are (new-roomy before (length (g .children p)) fields few-fields (found .1) room (met .1 .0 .room))
+
+  pub insert-done : {R M : Type 0} (meaning : R → M) (nothing : M) (mid after : List Node) (values values′ : List R) → mid ≡ set before n (with-production (at before n) p l′ fields) → Planted cs n fields (length cs) mid after → Blanked meaning nothing (take (length cs) fields) values values′
+    → Met (insert-checks g before room n p l) × InsertWork g meaning nothing before values after values′ n p l
+  insert-done meaning nothing mid after values values′ written planted blanked = (
+    met,
+    insert-work g text limits before mid after n p l fields (met .1 .1 .0) (met .1 .0 .few) (met .1 .1 .1 .0) (met .1 .1 .1 .1 .0) (met .1 .1 .1 .1 .1 .0) (met .1 .1 .1 .1 .1 .1 .0) (found .1)
+    (written ∙ ap (λ z. set before n (with-production (at before n) p z fields)) same)
+    (subst (λ ys. Planted ys n fields (length ys) mid after) cs-are planted) meaning nothing values values′ (subst (λ ys. Blanked meaning nothing (take (length ys) fields) values values′) cs-are blanked),
+  )

@@ -4,6 +4,6 @@ pub mod Regrowing
 pub mod Editing
 pub mod Checking
 pub mod NewNodes
-pub mod Filling
 pub mod Filled
+pub mod Filling
 pub mod Relabelling

@@ -49,3 +49,15 @@ fn blank_nodes<L: Language>(values: &mut [L::Row], at: [u16; 3], count: usize)
         blank_node::<L>(values, at[k]);
     }
 }
+
+// Turns a hole on the sheet into a production of its symbol with a literal; its children are new holes.
+pub fn insert<L: Language>(language: &L, nodes: &mut [Node], values: &mut [L::Row], n: u16, production: u8, literal: i32) -> Result<(), EditFault>
+    ensures { λ r. ⌜ InsertCall (grammar (now (language .entry))) (λ row. Value·Figure .means (Value·Figure .reads row)) (Value·Figure .nothing) (now (nodes .entry)) (now (values .entry)) (now (nodes .exit)) (now (values .exit)) n production literal r ⌝ }
+{
+    let at = check_insert(language, nodes, values.len(), n, production, literal)?;
+    let symbols = language.children(production);
+    set_production(nodes, n, production, literal, at);
+    put_holes(nodes, symbols, n, at);
+    blank_nodes::<L>(values, at, symbols.len());
+    Ok(())
+}

@@ -7,4 +7,5 @@ pub mod retyping;
 pub mod rows;
 
 pub use fault::EditFault;
+pub use inserting::insert;
 pub use retyping::retype;
