@@ -2,7 +2,7 @@
 use mathlib.Core.List.{List, [], _∷_, _++_}
 use mathlib.Core.Logic.{_⊎_, inl, inr, _≢_}
 use mathlib.Core.Path.{_≡_, refl, sym, _∙_, ap, subst}
-use Prim.Native.Nat.{ℕ, zero, suc, _+_, _*_, _/_, _≤_, _<_}
+use Prim.Native.Nat.{ℕ, _+_, _*_, _/_, _≤_, _<_}
 use native.Mathlib.Omega.{arith}
 use lib.ListN.{length, getD, take, set, length-set}
 use Rattle.std.proofs.shelf.Lists.{getD-set-same, getD-set-other, take-more}
@@ -52,14 +52,14 @@ module _ {R M : Type 0} (meaning : R → M) (nothing : M) where
   blanked-both xs ys a b c one two = record {
     many = two .many ∙ one .many;
     blank = λ n k d i less inside.
-      let inside′ : 4 * n + k < length b = omega (arith, inside, one .many) in
-      elim (in-or-not n ys) [
-        | inl j ↦ two .blank n k d j less inside′
-        | inr out ↦
-            let place : (4 * n + k) / 4 ≡ n = omega arith in
-            let first : In n xs = elim (in-either n xs ys i) [ inl j ↦ j | inr j ↦ absurd (out j) ] in
-            ap meaning (two .same (4 * n + k) d (λ j. out (subst (λ (m : ℕ). In m ys) place j))) ∙ one .blank n k d first less inside
-      ];
+        let inside′ : 4 * n + k < length b = omega (arith, inside, one .many) in
+        elim (in-or-not n ys) [
+          | inl j ↦ two .blank n k d j less inside′
+          | inr out ↦
+              let place : (4 * n + k) / 4 ≡ n = omega arith in
+              let first : In n xs = elim (in-either n xs ys i) [ inl j ↦ j | inr j ↦ absurd (out j) ] in
+              ap meaning (two .same (4 * n + k) d (λ j. out (subst (λ (m : ℕ). In m ys) place j))) ∙ one .blank n k d first less inside
+        ];
     same = λ f d out. two .same f d (λ j. out (in-second (f / 4) xs ys j)) ∙ one .same f d (λ j. out (in-first (f / 4) xs ys j));
   }
 

@@ -1,9 +1,9 @@
 -- What the parts of insert's checks say of the whole. A literal comes back from the code by another term, which is equal to it.
 use mathlib.Core.Bool.{Bool, false}
-use mathlib.Core.List.{List, [], _∷_, _++_}
-use mathlib.Core.Logic.{inl, inr}
+use mathlib.Core.List.{List, [], _∷_}
+use mathlib.Core.Logic.{inl}
 use mathlib.Core.Path.{_≡_, refl, sym, _∙_, ap, subst}
-use Prim.Native.Nat.{ℕ, _≤_, _<_}
+use Prim.Native.Nat.{ℕ, _<_}
 use native.Mathlib.Omega.{arith}
 use lib.Dec.{T}
 use lib.IntN.{ℤ}
@@ -24,10 +24,9 @@ pub not-accepted : (accepts : ℤ → Bool) (b : Bool) (l l′ : ℤ) → l′ �
 not-accepted accepts b l l′ e f q t = subst T (ap accepts (sym e) ∙ sym q ∙ f) t
 
 module _ (g : Grammar) (ns : List Node) (values n p : ℕ) (l l′ : ℤ) (same : l′ ≡ l) where
-
-  pub insert-refused : {A : Type 0} (W : A → Type 0) (e : EditFault) (r : Result A EditFault) → First (insert-checks-but-free g ns values n p l′) e → ErrBy r (λ f. f ≡ e) → Cases r W (First (insert-checks g ns values n p l))
-  insert-refused W e (Ok a) w k = absurd k
-  insert-refused W e (Err f) w k =
+  pub production-refused : {A : Type 0} (W : A → Type 0) (e : EditFault) (r : Result A EditFault) → First (insert-checks-but-free g ns values n p l′) e → ErrBy r (λ f. f ≡ e) → Cases r W (First (insert-checks g ns values n p l))
+  production-refused W e (Ok a) w k = absurd k
+  production-refused W e (Err f) w k =
       subst (λ x. First (insert-checks g ns values n p l) x) (sym k)
       (first-front (insert-checks-but-free g ns values n p l) (enough-free ns (length (g .children p)) n ∷ []) e (subst (λ (z : ℤ). First (insert-checks-but-free g ns values n p z) e) same w))
 

@@ -1,14 +1,13 @@
 -- A hole that became a production over new holes: the nodes form a sheet, with the new subtree in the hole's place.
-use mathlib.Core.Bool.{Bool, true, false}
+use mathlib.Core.Bool.{false}
 use mathlib.Core.List.{List, [], _∷_}
-use mathlib.Core.Logic.{_⊎_, inl, inr}
+use mathlib.Core.Logic.{inl, inr}
 use mathlib.Core.Path.{_≡_, refl, sym, _∙_, ap, subst}
 use Prim.Native.Nat.{ℕ, zero, suc, _≤_, _<_}
 use native.Mathlib.Omega.{arith}
 use lib.Dec.{T}
-use lib.IntN.{ℤ, pos}
+use lib.IntN.{ℤ}
 use lib.ListN.{length, getD}
-use Rattle.std.proofs.shelf.Lists.{getD-default}
 use Rattle.grammar.specs.Grammar.{Grammar, child}
 use Rattle.grammar.specs.Limits.{Limits}
 use Rattle.grammar.specs.Text.{Segment}
@@ -17,7 +16,7 @@ use Rattle.grammar.specs.Tree
 use Rattle.table.specs.declared.node.Node.{Node}
 use Rattle.table.specs.Nodes.{none, at, child-field, Used}
 use Rattle.table.specs.Climbing.{OnSheet}
-use Rattle.table.specs.Sheets.{Sheet, Hole, ChildAt, OneChildOf}
+use Rattle.table.specs.Sheets.{Sheet, Hole, ChildAt}
 use Rattle.table.specs.Represents.{Represents, In}
 use Rattle.table.specs.Testing.{RecordFits}
 use Rattle.table.proofs.Members.{at-most-three}
@@ -28,7 +27,7 @@ use Rattle.edit.specs.Checks.{Fitting}
 use Rattle.edit.specs.Calls.{Regrown, hole-tree, hole-trees, hole-at-place}
 use Rattle.edit.proofs.Blanking.{in-or-not}
 use Rattle.edit.proofs.NewNodes.{three-at, place-in}
-use Rattle.edit.proofs.Regrowing.{NewUnder, OneChanged, sheet-after, trees-after}
+use Rattle.edit.proofs.Regrowing.{never-both, NewUnder, OneChanged, sheet-after, trees-after}
 
 -- Node n has the production, over holes at nodes that were free, one for each child; every other record is the same.
 pub record FilledIn (g : Grammar) (before after : List Node) (n p : ℕ) (l : ℤ) (new : List ℕ) : Type 0 where
@@ -40,9 +39,6 @@ pub record FilledIn (g : Grammar) (before after : List Node) (n p : ℕ) (l : �
   pub node-is : at after n ≡ with-production (at before n) p l (three new)
   pub hole-is : (k : ℕ) → k < length (g .children p) → at after (getD new k none) ≡ hole-record (child g p k) n
   pub same : (x : ℕ) → (In x (n ∷ new) → ⊥) → at after x ≡ at before x
-
-never-both : (b : Bool) → b ≡ true → b ≡ false → ⊥
-never-both b t f = let z : _≡_ {A = ℕ} 0 1 = cc in omega arith
 
 no-children-but : (k : ℕ) → k < 3 → getD (none ∷ none ∷ none ∷ []) k 0 ≡ none
 no-children-but zero h = refl

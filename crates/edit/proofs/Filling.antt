@@ -1,94 +1,40 @@
 -- Insert's work, from the records that its parts write.
-use mathlib.Core.Bool.{Bool, true, false}
-use mathlib.Core.List.{List, [], _∷_}
-use mathlib.Core.Logic.{_⊎_, inl, inr}
+use mathlib.Core.Bool.{false}
+use mathlib.Core.List.{List, _∷_}
+use mathlib.Core.Logic.{inl, inr}
 use mathlib.Core.Path.{_≡_, refl, sym, _∙_, ap, subst}
-use Prim.Native.Nat.{ℕ, zero, suc, _+_, _*_, _≤_, _<_}
+use Prim.Native.Nat.{ℕ, _≤_, _<_}
 use native.Mathlib.Omega.{arith}
 use lib.Dec.{T}
-use lib.IntN.{ℤ, pos}
+use lib.IntN.{ℤ}
 use lib.ListN.{length, getD, set, take, length-set}
 use Rattle.std.proofs.shelf.Lists.{getD-set-same, getD-set-other, getD-default}
 use Rattle.grammar.specs.Grammar.{Grammar, child}
 use Rattle.grammar.specs.Limits.{Limits}
 use Rattle.grammar.specs.Text.{Segment}
-use Rattle.grammar.specs.Tree.{Tree, node}
+use Rattle.grammar.specs.Tree.{node}
 use Rattle.grammar.specs.Tree
 use Rattle.table.specs.declared.node.Node.{Node}
-use Rattle.table.specs.Nodes.{none, nowhere, at, child-field, Used}
+use Rattle.table.specs.Nodes.{none, nowhere, at, Used}
 use Rattle.table.specs.Climbing.{OnSheet}
-use Rattle.table.specs.Sheets.{Sheet, Hole, ChildAt, OneChildOf}
+use Rattle.table.specs.Sheets.{Sheet, Hole}
 use Rattle.table.specs.Refusals.{Met}
-use Rattle.table.specs.Represents.{Represents, In}
-use Rattle.table.specs.Testing.{RecordFits}
-use Rattle.table.proofs.Members.{at-most-three}
-use Rattle.table.proofs.Reading.{in-order, below-or-not, past-the-end}
-use Rattle.table.proofs.Replaced.{equal-or-not}
+use Rattle.table.specs.Represents.{In}
 use Rattle.table.proofs.Under.{climb-used}
-use Rattle.edit.specs.Memory.{OnlyRecords, Blanked}
-use Rattle.edit.specs.Fresh.{new-nodes, free-numbers, hole-record, three, with-production, NewNodes}
+use Rattle.edit.specs.Memory.{Blanked}
+use Rattle.edit.specs.Fresh.{new-nodes, hole-record, three, with-production, NewNodes}
 use Rattle.edit.specs.Planting.{Planted, Apart, Roomy}
 use Rattle.edit.specs.Checks.{Fitting, insert-checks}
-use Rattle.edit.specs.Edits.{Inserted, HolesUnder}
-use Rattle.edit.specs.Calls.{Regrown, InsertWork, hole-tree, hole-trees, hole-at-place}
-use Rattle.edit.proofs.NewNodes.{new-length, new-falling, three-at, in-at}
+use Rattle.edit.specs.Edits.{Inserted}
+use Rattle.edit.specs.Calls.{InsertWork}
+use Rattle.edit.proofs.NewNodes.{new-length, in-at, field-is, new-place, new-free, new-inside, new-alone, new-apart, taken-fields, new-roomy}
+use Rattle.edit.proofs.Regrowing.{never-both}
 use Rattle.edit.proofs.Filled.{FilledIn, sheet-filled, trees-filled}
 
-never-both : (b : Bool) → b ≡ true → b ≡ false → ⊥
-never-both b t f = let z : _≡_ {A = ℕ} 0 1 = cc in omega arith
-
-all-taken : (xs : List ℕ) → length xs ≤ 3 → take (length xs) (three xs) ≡ xs
-all-taken [] h = refl
-all-taken (x ∷ []) h = refl
-all-taken (x ∷ y ∷ []) h = refl
-all-taken (x ∷ y ∷ z ∷ []) h = refl
-all-taken (x ∷ y ∷ z ∷ w ∷ xs) h = absurd (omega arith)
-
--- the new nodes of a production's children, as the code has them
-module _ (ns : List Node) (count : ℕ) (fields : List ℕ) (some : count ≤ 3) (new : NewNodes ns count fields) where
-  pub field-is : (k : ℕ) → k < 3 → getD fields k 0 ≡ getD (new-nodes ns count) k none
-  field-is k h = ap (λ xs. getD xs k 0) (new .named) ∙ three-at (new-nodes ns count) k h
-
-  pub new-place : (k : ℕ) → k < count → k < length (new-nodes ns count)
-  new-place k h = omega (arith, h, new-length ns count (new .enough))
-
-  pub new-free : (k : ℕ) → k < count → at ns (getD (new-nodes ns count) k none) .used ≡ false
-  new-free k h = new-falling ns count (new .enough) .free k (new-place k h)
-
-  pub new-inside : (k : ℕ) → k < count → getD (new-nodes ns count) k none < length ns
-  new-inside k h = new-falling ns count (new .enough) .lower k (new-place k h)
-
-  -- places with the same new node are the same
-  pub new-alone : (j k : ℕ) → j < count → k < count → getD (new-nodes ns count) j none ≡ getD (new-nodes ns count) k none → j ≡ k
-  new-alone j k h l e = elim (below-or-not j k) [
-    | inl a ↦ absurd (omega (arith, e, new-falling ns count (new .enough) .falls j k a (new-place k l)))
-    | inr a ↦ elim (below-or-not k j) [
-      | inl b ↦ absurd (omega (arith, e, new-falling ns count (new .enough) .falls k j b (new-place j h)))
-      | inr b ↦ omega arith
-    ]
-  ]
-
-  pub new-apart : Apart (length ns) count fields
-  new-apart = record {
-    inside = λ k h. rw (field-is k (omega arith)) (new-inside k h);
-    different = λ j k l h e. let same = new-alone j k (omega arith) h (sym (field-is j (omega arith)) ∙ sym e ∙ field-is k (omega arith)) in omega arith;
-  }
-
-  -- the new nodes are the first child fields
-  pub taken-fields : take count fields ≡ new-nodes ns count
-  taken-fields =
-      let size = new-length ns count (new .enough) in
-      ap (take count) (new .named) ∙ ap (λ k. take k (three (new-nodes ns count))) (sym size) ∙ all-taken (new-nodes ns count) (omega (arith, size, some))
-
-  -- every new node has its four values
-  pub new-roomy : (values : ℕ) → 4 * length ns ≤ values → Roomy values count fields
-  new-roomy values room k h = omega (arith, room, new-apart .inside k h)
-
+-- The node's record is written first, then the holes.
 module _ (g : Grammar) (text : ℕ → List Segment) (limits : Limits g text) (before mid after : List Node) (n p : ℕ) (l : ℤ) (fields : List ℕ)
-  (sheet : Sheet g before) (few : length before ≤ 1000) (on : OnSheet before n) (hole : Hole g (at before n .production)) (fitting : Fitting g (at before n .production) p) (accepted : T (g .accepts p l))
-  (new : NewNodes before (length (g .children p)) fields) (written : mid ≡ set before n (with-production (at before n) p l fields)) (planted : Planted (g .children p) n fields (length (g .children p)) mid after) where
-
-
+    (sheet : Sheet g before) (few : length before ≤ 1000) (on : OnSheet before n) (hole : Hole g (at before n .production)) (fitting : Fitting g (at before n .production) p) (accepted : T (g .accepts p l))
+    (new : NewNodes before (length (g .children p)) fields) (written : mid ≡ set before n (with-production (at before n) p l fields)) (planted : Planted (g .children p) n fields (length (g .children p)) mid after) where
   pub some : length (g .children p) ≤ 3
   some = limits .each p (fitting .0) .few-children
 
@@ -166,10 +112,10 @@ module _ (g : Grammar) (text : ℕ → List Segment) (limits : Limits g text) (b
   fields-roomy = rw cs-are (new-roomy before (length (g .children p)) fields few-fields (found .1) room (met .1 .0 .room))
 
   pub insert-done : {R M : Type 0} (meaning : R → M) (nothing : M) (mid after : List Node) (values values′ : List R) → mid ≡ set before n (with-production (at before n) p l′ fields) → Planted cs n fields (length cs) mid after → Blanked meaning nothing (take (length cs) fields) values values′
-    → Met (insert-checks g before room n p l) × InsertWork g meaning nothing before values after values′ n p l
+      → Met (insert-checks g before room n p l) × InsertWork g meaning nothing before values after values′ n p l
   insert-done meaning nothing mid after values values′ written planted blanked = (
     met,
     insert-work g text limits before mid after n p l fields (met .1 .1 .0) (met .1 .0 .few) (met .1 .1 .1 .0) (met .1 .1 .1 .1 .0) (met .1 .1 .1 .1 .1 .0) (met .1 .1 .1 .1 .1 .1 .0) (found .1)
-    (written ∙ ap (λ z. set before n (with-production (at before n) p z fields)) same)
-    (subst (λ ys. Planted ys n fields (length ys) mid after) cs-are planted) meaning nothing values values′ (subst (λ ys. Blanked meaning nothing (take (length ys) fields) values values′) cs-are blanked),
+        (written ∙ ap (λ z. set before n (with-production (at before n) p z fields)) same)
+        (subst (λ ys. Planted ys n fields (length ys) mid after) cs-are planted) meaning nothing values values′ (subst (λ ys. Blanked meaning nothing (take (length ys) fields) values values′) cs-are blanked),
   )

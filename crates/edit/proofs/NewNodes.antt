@@ -1,16 +1,18 @@
 -- The new nodes of an edit are free, different and in the table.
 use mathlib.Core.Bool.{Bool, true, false}
 use mathlib.Core.List.{List, [], _∷_}
-use mathlib.Core.Logic.{_⊎_, inl, inr}
-use mathlib.Core.Path.{_≡_, refl, sym, _∙_, ap, subst}
-use Prim.Native.Nat.{ℕ, zero, suc, _≤_, _<_}
+use mathlib.Core.Logic.{inl, inr}
+use mathlib.Core.Path.{_≡_, refl, sym, _∙_, ap}
+use Prim.Native.Nat.{ℕ, zero, suc, _*_, _≤_, _<_}
 use native.Mathlib.Omega.{arith}
 use lib.ListN.{length, getD, take}
 use Rattle.std.proofs.shelf.Lists.{getD-take, length-take-le}
 use Rattle.table.specs.declared.node.Node.{Node}
 use Rattle.table.specs.Nodes.{none, at}
 use Rattle.table.specs.Represents.{In}
+use Rattle.table.proofs.Reading.{below-or-not}
 use Rattle.edit.specs.Fresh.{free-below, free-numbers, new-nodes, three, NewNodes}
+use Rattle.edit.specs.Planting.{Apart, Roomy}
 
 -- numbers of free nodes below a bound, each lower than the one before
 pub record Falling (ns : List Node) (bound : ℕ) (xs : List ℕ) : Type 0 where
@@ -81,3 +83,50 @@ pub in-at : (xs : List ℕ) (k : ℕ) → k < length xs → In (getD xs k none) 
 in-at [] k h = absurd (omega arith)
 in-at (x ∷ xs) zero h = inl refl
 in-at (x ∷ xs) (suc k) h = inr (in-at xs k (omega arith))
+
+all-taken : (xs : List ℕ) → length xs ≤ 3 → take (length xs) (three xs) ≡ xs
+all-taken [] h = refl
+all-taken (x ∷ []) h = refl
+all-taken (x ∷ y ∷ []) h = refl
+all-taken (x ∷ y ∷ z ∷ []) h = refl
+all-taken (x ∷ y ∷ z ∷ w ∷ xs) h = absurd (omega arith)
+
+-- the child fields that name the new nodes
+module _ (ns : List Node) (count : ℕ) (fields : List ℕ) (some : count ≤ 3) (new : NewNodes ns count fields) where
+  pub field-is : (k : ℕ) → k < 3 → getD fields k 0 ≡ getD (new-nodes ns count) k none
+  field-is k h = ap (λ xs. getD xs k 0) (new .named) ∙ three-at (new-nodes ns count) k h
+
+  pub new-place : (k : ℕ) → k < count → k < length (new-nodes ns count)
+  new-place k h = omega (arith, h, new-length ns count (new .enough))
+
+  pub new-free : (k : ℕ) → k < count → at ns (getD (new-nodes ns count) k none) .used ≡ false
+  new-free k h = new-falling ns count (new .enough) .free k (new-place k h)
+
+  pub new-inside : (k : ℕ) → k < count → getD (new-nodes ns count) k none < length ns
+  new-inside k h = new-falling ns count (new .enough) .lower k (new-place k h)
+
+  -- places with the same new node are the same
+  pub new-alone : (j k : ℕ) → j < count → k < count → getD (new-nodes ns count) j none ≡ getD (new-nodes ns count) k none → j ≡ k
+  new-alone j k h l e = elim (below-or-not j k) [
+    | inl a ↦ absurd (omega (arith, e, new-falling ns count (new .enough) .falls j k a (new-place k l)))
+    | inr a ↦ elim (below-or-not k j) [
+      | inl b ↦ absurd (omega (arith, e, new-falling ns count (new .enough) .falls k j b (new-place j h)))
+      | inr b ↦ omega arith
+    ]
+  ]
+
+  pub new-apart : Apart (length ns) count fields
+  new-apart = record {
+    inside = λ k h. rw (field-is k (omega arith)) (new-inside k h);
+    different = λ j k l h e. let same = new-alone j k (omega arith) h (sym (field-is j (omega arith)) ∙ sym e ∙ field-is k (omega arith)) in omega arith;
+  }
+
+  -- the new nodes are the first child fields
+  pub taken-fields : take count fields ≡ new-nodes ns count
+  taken-fields =
+      let size = new-length ns count (new .enough) in
+      ap (take count) (new .named) ∙ ap (λ k. take k (three (new-nodes ns count))) (sym size) ∙ all-taken (new-nodes ns count) (omega (arith, size, some))
+
+  -- every new node has its four values
+  pub new-roomy : (values : ℕ) → 4 * length ns ≤ values → Roomy values count fields
+  new-roomy values room k h = omega (arith, room, new-apart .inside k h)

@@ -11,7 +11,7 @@ use Rattle.grammar.specs.Tree.{Tree}
 use Rattle.table.specs.declared.node.Node.{Node}
 use Rattle.table.specs.Nodes.{none, at, child-field, Used, Blank}
 use Rattle.table.specs.Climbing.{Climb, ends, goes-on, OnSheet}
-use Rattle.table.specs.Sheets.{Sheet, Good, InOrder, Hangs, root, clipping, below as hung-below, Hole, ChildAt, OneChildOf, ClippingRoot}
+use Rattle.table.specs.Sheets.{Sheet, Good, InOrder, Hangs, root, clipping, below as hung-below, Hole, ChildAt, OneChildOf}
 use Rattle.table.specs.Represents.{Represents}
 use Rattle.table.specs.Testing.{RecordFits}
 use Rattle.table.proofs.Climbs.{climb-unique}
@@ -43,7 +43,8 @@ pub record OneChanged (g : Grammar) (before after : List Node) (n : ℕ) : Type 
   pub keeps : (m : ℕ) → OneChildOf g before n m → OneChildOf g after n m
   pub others : (x : ℕ) → x < length before → (x ≡ n → ⊥) → (at after x ≡ at before x) ⊎ NewUnder g before after n x
 
-never-both : (b : Bool) → b ≡ true → b ≡ false → ⊥
+-- a node is not in use and free
+pub never-both : (b : Bool) → b ≡ true → b ≡ false → ⊥
 never-both b t f = let z : _≡_ {A = ℕ} 0 1 = cc in omega arith
 
 module _ (g : Grammar) (before after : List Node) (n : ℕ) (sheet : Sheet g before) (here : Used before n) (changed : OneChanged g before after n) where
@@ -171,13 +172,13 @@ module _ (g : Grammar) (before after : List Node) (n : ℕ) (sheet : Sheet g bef
   pub trees-after : length before ≤ 1000 → AtMostThree g → OnSheet before n → (new : Tree) → Represents after n new → Regrown n new (λ r. Unit {0}) before after
   trees-after few three on new after-n = record {
     sheet-tree = λ t r.
-      let is-member = members g before sheet few three t 0 r (no-parent (in-order sheet 0 (sheet .root-used) .hangs)) n in
-      node-replaced g before sheet few after t 0 r n new (is-member .1 on) after-n
-      (λ x i out. kept x (under-used (member-under g before sheet few x t 0 r i)) (λ e. out (itself (under-used (member-under g before sheet few x t 0 r i)) e)));
+        let is-member = members g before sheet few three t 0 r (no-parent (in-order sheet 0 (sheet .root-used) .hangs)) n in
+        node-replaced g before sheet few after t 0 r n new (is-member .1 on) after-n
+        (λ x i out. kept x (under-used (member-under g before sheet few x t 0 r i)) (λ e. out (itself (under-used (member-under g before sheet few x t 0 r i)) e)));
     clippings = λ r t is tt′ rep.
-      framed before after t r rep (λ x i.
-      let c : Climb before r x = members g before sheet few three t r rep (is .2) x .0 i in
-      kept x (climb-used c) (λ e. is .1 (climb-unique before (omega arith) r 0 n (subst (λ (j : ℕ). Climb before r j) e c) on)));
+        framed before after t r rep (λ x i.
+        let c : Climb before r x = members g before sheet few three t r rep (is .2) x .0 i in
+        kept x (climb-used c) (λ e. is .1 (climb-unique before (omega arith) r 0 n (subst (λ (j : ℕ). Climb before r j) e c) on)));
   }
     where
       kept : (x : ℕ) → Used before x → (x ≡ n → ⊥) → Kept before after x

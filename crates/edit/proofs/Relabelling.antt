@@ -1,32 +1,32 @@
 -- Retype's work: one record with another literal leaves a sheet, with the same trees but for that literal.
-use mathlib.Core.List.{List, [], _∷_, _++_}
-use mathlib.Core.Logic.{_⊎_, inl, inr, _≢_}
+use mathlib.Core.List.{List, _++_}
+use mathlib.Core.Logic.{inl, inr}
 use mathlib.Core.Path.{_≡_, refl, sym, _∙_, ap, subst}
 use Prim.Native.Nat.{ℕ, _≤_, _<_}
 use native.Mathlib.Omega.{arith}
 use lib.Dec.{T}
 use lib.IntN.{ℤ}
-use lib.ListN.{length, getD, set, length-set}
+use lib.ListN.{length, set, length-set}
 use Rattle.std.proofs.shelf.Lists.{getD-set-same, getD-set-other}
 use Rattle.grammar.specs.Grammar.{Grammar, child}
 use Rattle.grammar.specs.Tree.{Tree, node, hanging}
 use Rattle.table.specs.declared.node.Node.{Node}
 use Rattle.table.specs.Nodes.{at, nowhere, child-field, Used}
 use Rattle.table.specs.Climbing.{OnSheet}
-use Rattle.table.specs.Sheets.{Sheet, Hole, ChildAt, OneChildOf}
+use Rattle.table.specs.Sheets.{Sheet, Hole, ChildAt}
+use Rattle.table.specs.Refusals.{Met}
 use Rattle.table.specs.Represents.{Represents, numbers, In}
-use Rattle.table.specs.Testing.{RecordFits}
 use Rattle.table.proofs.Distinctness.{distinct}
-use Rattle.table.proofs.Frame.{Kept, framed, same-record-kept}
+use Rattle.table.proofs.Frame.{framed, same-record-kept}
 use Rattle.table.proofs.Members.{AtMostThree, member-under}
 use Rattle.table.proofs.Places.{represented-at, at-place}
 use Rattle.table.proofs.Reading.{in-order}
 use Rattle.table.proofs.Replaced.{equal-or-not}
 use Rattle.table.proofs.Under.{climb-used, under-used}
-use Rattle.edit.specs.Memory.{OnlyRecords}
 use Rattle.edit.specs.Fresh.{with-literal}
+use Rattle.edit.specs.Checks.{retype-checks}
 use Rattle.edit.specs.Edits.{Retyped}
-use Rattle.edit.specs.Calls.{Regrown, RetypeWork}
+use Rattle.edit.specs.Calls.{RetypeWork}
 use Rattle.edit.proofs.Regrowing.{OneChanged, sheet-after, trees-after, persists}
 
 module _ (g : Grammar) (before after : List Node) (n : ℕ) (l : ℤ) (sheet : Sheet g before) (few : length before ≤ 1000) (on : OnSheet before n) (accepted : T (g .accepts (at before n .production) l)) (written : after ≡ set before n (with-literal (at before n) l)) where
@@ -103,3 +103,10 @@ module _ (g : Grammar) (before after : List Node) (n : ℕ) (l : ℤ) (sheet : S
     sheet = sheet-after g before after n sheet here changed;
     trees = λ p l′ a b c r. trees-after g before after n sheet here changed few three on (node n p l a b c) (new-tree p l′ a b c r);
   }
+
+-- Retype's checks and its one write together; the literal comes back from the code by another term, which is equal to it.
+pub retype-done : {R M : Type 0} (g : Grammar) (meaning : R → M) (nothing : M) (before after : List Node) (values : List R) (n : ℕ) (l l′ : ℤ) → AtMostThree g → l′ ≡ l → Met (retype-checks g before (length values) n l′) → after ≡ set before n (with-literal (at before n) l′)
+    → Met (retype-checks g before (length values) n l) × RetypeWork g meaning nothing before values after values n l
+retype-done g meaning nothing before after values n l l′ three same met′ written =
+    let met = subst (λ (z : ℤ). Met (retype-checks g before (length values) n z)) same met′ in
+    (met, retype-work g before after n l (met .1 .1 .0) (met .1 .0 .few) (met .1 .1 .1 .0) (met .1 .1 .1 .1 .0) (written ∙ ap (λ z. set before n (with-literal (at before n) z)) same) meaning nothing values three)

@@ -19,7 +19,12 @@ use table::check_on_sheet;
 use table::is_hole;
 
 // What every edit at a node checks first.
-pub(crate) fn check_at_node<L: Language>(language: &L, nodes: &[Node], values: usize, n: u16) -> Result<(), EditFault>
+pub(crate) fn check_at_node<L: Language>(
+    language: &L,
+    nodes: &[Node],
+    values: usize,
+    n: u16,
+) -> Result<(), EditFault>
     ensures { λ r. ⌜ Answer (at-a-node (grammar (now (language .entry))) (now (nodes .entry)) values n) r ⌝ }
 {
     begin(language, nodes, values)?;
@@ -28,7 +33,13 @@ pub(crate) fn check_at_node<L: Language>(language: &L, nodes: &[Node], values: u
 }
 
 // What retype checks.
-pub(crate) fn check_retype<L: Language>(language: &L, nodes: &[Node], values: usize, n: u16, literal: i32) -> Result<(), EditFault>
+pub(crate) fn check_retype<L: Language>(
+    language: &L,
+    nodes: &[Node],
+    values: usize,
+    n: u16,
+    literal: i32,
+) -> Result<(), EditFault>
     ensures { λ r. ⌜ Answer (retype-checks (grammar (now (language .entry))) (now (nodes .entry)) values n literal) r ⌝ }
 {
     check_at_node(language, nodes, values, n)?;
@@ -52,7 +63,14 @@ fn is_fitting<L: Language>(language: &L, other: u8, production: u8) -> bool
 }
 
 // What insert checks before it looks for free nodes.
-fn check_production<L: Language>(language: &L, nodes: &[Node], values: usize, n: u16, production: u8, literal: i32) -> Result<(), EditFault>
+fn check_production<L: Language>(
+    language: &L,
+    nodes: &[Node],
+    values: usize,
+    n: u16,
+    production: u8,
+    literal: i32,
+) -> Result<(), EditFault>
     ensures { λ r. ⌜ Answer (insert-checks-but-free (grammar (now (language .entry))) (now (nodes .entry)) values n production literal) r ⌝ }
 {
     check_at_node(language, nodes, values, n)?;
@@ -70,7 +88,14 @@ fn check_production<L: Language>(language: &L, nodes: &[Node], values: usize, n:
 }
 
 // What insert checks; it answers the child fields for the new nodes.
-pub(crate) fn check_insert<L: Language>(language: &L, nodes: &[Node], values: usize, n: u16, production: u8, literal: i32) -> Result<[u16; 3], EditFault>
+pub(crate) fn check_insert<L: Language>(
+    language: &L,
+    nodes: &[Node],
+    values: usize,
+    n: u16,
+    production: u8,
+    literal: i32,
+) -> Result<[u16; 3], EditFault>
     ensures { λ r. ⌜ Cases r (λ fields. Met (insert-checks (grammar (now (language .entry))) (now (nodes .entry)) values n production literal) × NewNodes (now (nodes .entry)) (length (grammar (now (language .entry)) .children production)) fields) (First (insert-checks (grammar (now (language .entry))) (now (nodes .entry)) values n production literal)) ⌝ }
 {
     check_production(language, nodes, values, n, production, literal)?;

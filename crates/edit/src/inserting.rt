@@ -19,7 +19,12 @@ fn set_production(nodes: &mut [Node], n: u16, production: u8, literal: i32, chil
     requires { ⌜ n < length (now nodes) ⌝ }
     ensures { λ _. ⌜ now (nodes .exit) ≡ set (now (nodes .entry)) n (with-production (record-at (now (nodes .entry)) n) production literal children) ⌝ }
 {
-    nodes[n as usize] = Node { production, literal, children, ..nodes[n as usize] };
+    nodes[n as usize] = Node {
+        production,
+        literal,
+        children,
+        ..nodes[n as usize]
+    };
 }
 
 // Puts a hole down.
@@ -27,7 +32,13 @@ fn put_hole(nodes: &mut [Node], n: u16, symbol: u8, parent: u16)
     requires { ⌜ n < length (now nodes) ⌝ }
     ensures { λ _. ⌜ now (nodes .exit) ≡ set (now (nodes .entry)) n (hole-record symbol parent) ⌝ }
 {
-    nodes[n as usize] = Node { used: true, production: symbol, literal: 0, parent, children: [NONE, NONE, NONE] };
+    nodes[n as usize] = Node {
+        used: true,
+        production: symbol,
+        literal: 0,
+        parent,
+        children: [NONE, NONE, NONE],
+    };
 }
 
 // Puts holes of some symbols down under a parent.
@@ -51,7 +62,14 @@ fn blank_nodes<L: Language>(values: &mut [L::Row], at: [u16; 3], count: usize)
 }
 
 // Turns a hole on the sheet into a production of its symbol with a literal; its children are new holes.
-pub fn insert<L: Language>(language: &L, nodes: &mut [Node], values: &mut [L::Row], n: u16, production: u8, literal: i32) -> Result<(), EditFault>
+pub fn insert<L: Language>(
+    language: &L,
+    nodes: &mut [Node],
+    values: &mut [L::Row],
+    n: u16,
+    production: u8,
+    literal: i32,
+) -> Result<(), EditFault>
     ensures { λ r. ⌜ InsertCall (grammar (now (language .entry))) (λ row. Value·Figure .means (Value·Figure .reads row)) (Value·Figure .nothing) (now (nodes .entry)) (now (values .entry)) (now (nodes .exit)) (now (values .exit)) n production literal r ⌝ }
 {
     let at = check_insert(language, nodes, values.len(), n, production, literal)?;

@@ -19,7 +19,13 @@ fn set_literal(nodes: &mut [Node], n: u16, literal: i32)
 }
 
 // Gives a node on the sheet another literal, which its production must accept.
-pub fn retype<L: Language>(language: &L, nodes: &mut [Node], values: &mut [L::Row], n: u16, literal: i32) -> Result<(), EditFault>
+pub fn retype<L: Language>(
+    language: &L,
+    nodes: &mut [Node],
+    values: &mut [L::Row],
+    n: u16,
+    literal: i32,
+) -> Result<(), EditFault>
     ensures { λ r. ⌜ RetypeCall (grammar (now (language .entry))) (λ row. Value·Figure .means (Value·Figure .reads row)) (Value·Figure .nothing) (now (nodes .entry)) (now (values .entry)) (now (nodes .exit)) (now (values .exit)) n literal r ⌝ }
 {
     check_retype(language, nodes, values.len(), n, literal)?;
