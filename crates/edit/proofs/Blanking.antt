@@ -2,10 +2,10 @@
 use mathlib.Core.List.{List, [], _∷_, _++_}
 use mathlib.Core.Logic.{_⊎_, inl, inr, _≢_}
 use mathlib.Core.Path.{_≡_, refl, sym, _∙_, ap, subst}
-use Prim.Native.Nat.{ℕ, zero, suc, _+_, _*_, _/_, _≤_, _<_}
+use Prim.Native.Nat.{ℕ, _+_, _*_, _/_, _≤_, _<_}
 use native.Mathlib.Omega.{arith}
-use lib.ListN.{length, getD, set, length-set}
-use Rattle.std.proofs.shelf.Lists.{getD-set-same, getD-set-other}
+use lib.ListN.{length, getD, take, set, length-set}
+use Rattle.std.proofs.shelf.Lists.{getD-set-same, getD-set-other, take-more}
 use Rattle.table.specs.Represents.{In}
 use Rattle.table.proofs.Places.{in-first, in-second, in-either}
 use Rattle.table.proofs.Reading.{below-or-not}
@@ -88,6 +88,11 @@ module _ {R M : Type 0} (meaning : R → M) (nothing : M) where
       let three = stored-more row first 2 v v₂ v₃ (omega arith) two e₃ in
       let four = stored-more row first 3 v v₃ v₄ (omega arith) three e₄ in
       blanked-stored n row v v₄ blank (subst (λ (i : ℕ). Stored row i 4 v v₄) is four)
+
+  -- one more of the first nodes of a list
+  pub blanked-more : (nodes : List ℕ) (k : ℕ) (a b c : List R) → k < length nodes → Blanked meaning nothing (take k nodes) a b → Blanked meaning nothing (getD nodes k 0 ∷ []) b c → Blanked meaning nothing (take (k + 1) nodes) a c
+  blanked-more nodes k a b c h so-far one =
+      subst (λ xs. Blanked meaning nothing xs a c) (sym (take-more nodes k 0 h)) (blanked-both (take k nodes) (getD nodes k 0 ∷ []) a b c so-far one)
 
 -- the first values, with a row that means nothing stored in them
 pub blanked-first : {R M : Type 0} (meaning : R → M) (nothing : M) (row : R) (count end : ℕ) (before after : List R) → meaning row ≡ nothing → count ≡ end → Stored row 0 end before after → BlankedFirst meaning nothing count before after

@@ -1,14 +1,13 @@
 -- The free nodes below a number, one by one, and the child fields that name the first of them.
 use mathlib.Core.Bool.{true, false}
 use mathlib.Core.List.{List, [], _∷_}
-use mathlib.Core.Path.{_≡_, refl, sym, _∙_, ap, subst}
+use mathlib.Core.Path.{_≡_, refl, sym, _∙_, ap}
 use Prim.Native.Nat.{ℕ, zero, suc, _+_, _-_, _≤_, _<_}
 use native.Mathlib.Omega.{arith}
-use native.Mathlib.Numerals.{add-one}
-use lib.ListN.{length, getD, take, drop, set}
+use lib.ListN.{length, take, drop, set}
 use Rattle.table.specs.declared.node.Node.{Node}
 use Rattle.table.specs.Nodes.{none, at}
-use Rattle.edit.specs.Fresh.{free-below, free-numbers, new-nodes, three, NextFree, NewNodes}
+use Rattle.edit.specs.Fresh.{free-below, free-numbers, three, NextFree}
 
 -- One node down from n: a free node is the next below, a used one is passed over.
 module _ (ns : List Node) (below n : ℕ) (some : 0 < n) (so-far : free-below ns below ≡ free-below ns n) where

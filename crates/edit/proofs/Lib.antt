@@ -5,3 +5,10 @@ pub mod MadeSheet
 pub mod Refused
 pub mod Listing
 pub mod Starting
+pub mod Regrowing
+pub mod Editing
+pub mod Checking
+pub mod NewNodes
+pub mod Filled
+pub mod Filling
+pub mod Relabelling

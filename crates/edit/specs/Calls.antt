@@ -24,7 +24,7 @@ use Rattle.edit.specs.Checks.{insert-checks, cut-checks, paste-checks, exchang
 abbrev pub hole-tree : ℕ → ℕ → Tree
 hole-tree n s = node n s (pos 0) Tree.none Tree.none Tree.none
 
--- the trees of holes at some nodes, one for each of some symbols
+-- the trees of holes at some nodes, one for each symbol
 abbrev pub hole-trees : List ℕ → List ℕ → List Tree
 hole-trees [] symbols = []
 hole-trees (n ∷ ns) [] = []
@@ -111,3 +111,10 @@ module _ {R M : Type 0} (g : Grammar) (meaning : R → M) (nothing : M) (before 
 
   abbrev pub MakeCall : {A : Type 0} → Result A EditFault → Type 0
   MakeCall r = Edited (make-checks g before (length values)) (λ a. MakeWork) r
+
+  -- What insert and retype answer and leave.
+  abbrev pub InsertCall : {A : Type 0} → ℕ → ℕ → ℤ → Result A EditFault → Type 0
+  InsertCall n p l = Edited (insert-checks g before (length values) n p l) (λ a. InsertWork n p l)
+
+  abbrev pub RetypeCall : {A : Type 0} → ℕ → ℤ → Result A EditFault → Type 0
+  RetypeCall n l = Edited (retype-checks g before (length values) n l) (λ a. RetypeWork n l)

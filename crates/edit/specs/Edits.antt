@@ -10,7 +10,7 @@ use Rattle.table.specs.declared.node.Node.{Node}
 use Rattle.table.specs.Nodes.{none, at, child-field}
 use Rattle.table.specs.Climbing.{Climb}
 use Rattle.edit.specs.Memory.{OnlyRecords}
-use Rattle.edit.specs.Fresh.{new-nodes, hole-record, three, free-record, with-parent, with-literal}
+use Rattle.edit.specs.Fresh.{new-nodes, hole-record, three, free-record, with-parent, with-production, with-literal}
 
 -- Holes are put down at new nodes under a parent, for the children of a production.
 pub record HolesUnder (g : Grammar) (p parent : ℕ) (new : List ℕ) (after : List Node) : Type 0 where
@@ -20,7 +20,7 @@ pub record HolesUnder (g : Grammar) (p parent : ℕ) (new : List ℕ) (after : L
 pub record Inserted (g : Grammar) (node p : ℕ) (l : ℤ) (before after : List Node) : Type 0 where
   pub new : List ℕ
   pub new-are : new ≡ new-nodes before (length (g .children p))
-  pub node-is : at after node ≡ record { used = at before node .used; production = p; literal = l; parent = at before node .parent; children = three new }
+  pub node-is : at after node ≡ with-production (at before node) p l (three new)
   pub holes : HolesUnder g p node new after
   pub others : OnlyRecords (node ∷ new) before after
 

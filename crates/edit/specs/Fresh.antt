@@ -33,10 +33,15 @@ three ns = getD ns 0 none ∷ getD ns 1 none ∷ getD ns 2 none ∷ []
 abbrev pub free-record : Node
 free-record = record { used = false; production = 0; literal = pos 0; parent = none; children = none ∷ none ∷ none ∷ [] }
 
--- a record with another parent, and one with another child at place k
+-- a record with another parent
 abbrev pub with-parent : Node → ℕ → Node
 with-parent nd m = record { used = nd .used; production = nd .production; literal = nd .literal; parent = m; children = nd .children }
 
+-- a record with another production, literal and children
+abbrev pub with-production : Node → ℕ → ℤ → List ℕ → Node
+with-production nd p l children = record { used = nd .used; production = p; literal = l; parent = nd .parent; children = children }
+
+-- a record with another literal
 abbrev pub with-literal : Node → ℤ → Node
 with-literal nd l = record { used = nd .used; production = nd .production; literal = l; parent = nd .parent; children = nd .children }
 

@@ -1,5 +1,6 @@
 pub mod Memory
 pub mod Fresh
+pub mod Planting
 pub mod Edits
 pub mod Gathering
 pub mod Starting

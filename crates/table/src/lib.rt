@@ -19,5 +19,6 @@ pub use climb::top_of;
 pub use fault::TableFault;
 pub use node::NONE;
 pub use node::Node;
+pub use sheet_test::is_hole;
 pub use sheet_test::is_sheet;
 pub use stack::Stack;
