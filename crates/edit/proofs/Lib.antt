@@ -1,1 +1,3 @@
 pub mod Hanging
+pub mod Forest
+pub mod Swapping
