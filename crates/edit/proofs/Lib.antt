@@ -1,3 +1,5 @@
 pub mod Hanging
 pub mod Forest
 pub mod Swapping
+pub mod Exchanging
+pub mod Regrowing
