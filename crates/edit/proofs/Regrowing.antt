@@ -1,6 +1,7 @@
 -- The trees after a root was hung in the place of a node on the sheet: the tree under node 0 has the root's tree there, every clipping keeps its tree.
 use mathlib.Core.Path.{_≡_, refl, sym, subst, _∙_, ap}
 use mathlib.Core.List.{List}
+use mathlib.Core.Logic.{inl, inr}
 use Prim.Native.Nat.{ℕ, _≤_, _<_}
 use native.Mathlib.Omega.{arith}
 use lib.ListN.{length}
