@@ -1,7 +1,8 @@
 -- Free nodes, and the new nodes of an edit.
 use mathlib.Core.Bool.{Bool, true, false}
 use mathlib.Core.List.{List, [], _∷_}
-use Prim.Native.Nat.{ℕ, zero, suc}
+use mathlib.Core.Path.{_≡_}
+use Prim.Native.Nat.{ℕ, zero, suc, _≤_, _<_}
 use lib.IntN.{ℤ, pos}
 use lib.ListN.{length, getD, take}
 use Rattle.table.specs.declared.node.Node.{Node}
@@ -38,3 +39,14 @@ with-parent nd m = record { used = nd .used; production = nd .production; litera
 
 abbrev pub with-literal : Node → ℤ → Node
 with-literal nd l = record { used = nd .used; production = nd .production; literal = l; parent = nd .parent; children = nd .children }
+
+-- Node n is the highest free node below a number.
+pub record NextFree (ns : List Node) (below n : ℕ) : Type 0 where
+  pub lower : n < below
+  pub free : at ns n .used ≡ false
+  pub first : free-below ns below ≡ n ∷ free-below ns n
+
+-- Enough nodes are free, and the child fields name the new ones.
+pub record NewNodes (ns : List Node) (count : ℕ) (fields : List ℕ) : Type 0 where
+  pub enough : count ≤ length (free-numbers ns)
+  pub named : fields ≡ three (new-nodes ns count)

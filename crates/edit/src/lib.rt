@@ -1,7 +1,7 @@
 // The work of the edits on records and rows.
-ghost use Prim.Native.Nat.{ℕ};
-ghost use Rattle.edit.specs.Edits.{Inserted, Retyped, CutOut, Pasted, Exchanged};
 pub mod fault;
+pub mod fresh;
 mod hang;
+pub mod rows;
 
 pub use fault::EditFault;
