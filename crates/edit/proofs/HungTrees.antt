@@ -18,6 +18,7 @@ use Rattle.table.proofs.Members.{AtMostThree, member-under, under-member}
 use Rattle.table.proofs.Replaced.{equal-or-not}
 use Rattle.table.proofs.Frame.{Kept, framed}
 use Rattle.table.proofs.Relinking.{LinkChanged, link-replaced}
+use Rattle.edit.proofs.Swapping.{Swapped}
 
 module _ (g : Grammar) (ns ns′ : List Node) (sheet : Sheet g ns) (few : length ns ≤ 1000) (three : AtMostThree g) (n q k r : ℕ) (on : Climb ns 0 n) (parent : at ns n .parent ≡ q) (parent-on : Climb ns 0 q) (inside : k < 3) (named : child-field (at ns q) k ≡ n) (kept : (x : ℕ) → Used ns x → (x ≡ q → ⊥) → (x ≡ n → ⊥) → Kept ns ns′ x) where
   -- what climbs elsewhere is no node that climbs to node 0
@@ -51,3 +52,14 @@ module _ (g : Grammar) (ns ns′ : List Node) (sheet : Sheet g ns) (few : length
     where
       in-t : In q (numbers t)
       in-t = under-member g ns sheet few three t 0 rep (climb-under parent-on)
+
+-- what hanging leaves of the nodes, as the trees see it
+module _ (r n q k : ℕ) (ns ns′ : List Node) (swapped : Swapped r n q k ns ns′) where
+  used-after : (x : ℕ) → Used ns x → Used ns′ x
+  used-after x u = (omega (arith, u .0, swapped .many), swapped .used x ∙ u .1)
+
+  pub swapped-kept : (x : ℕ) → Used ns x → (x ≡ q → ⊥) → Kept ns ns′ x
+  swapped-kept x u other = record { used = used-after x u; production = swapped .production x; literal = swapped .literal x; children = λ j h. swapped .child-other x j (λ e. other (e .0)) }
+
+  pub swapped-link : Used ns q → LinkChanged ns ns′ q k r
+  swapped-link u = record { used = used-after q u; production = swapped .production q; literal = swapped .literal q; changed = swapped .child-k; others = λ j h other. swapped .child-other q j (λ e. other (e .1)) }

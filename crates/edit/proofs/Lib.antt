@@ -6,3 +6,4 @@ pub mod HungTrees
 pub mod Freshness
 pub mod Blanking
 pub mod Regrowing
+pub mod ExchangeDone

@@ -1,4 +1,5 @@
 // The work of the edits on records and rows.
+mod clipping_checks;
 pub mod fault;
 pub mod fresh;
 mod hang;
