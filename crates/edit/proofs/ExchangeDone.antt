@@ -19,7 +19,7 @@ use Rattle.edit.specs.Edits.{Exchanged}
 use Rattle.edit.specs.Calls.{ExchangeWork}
 use Rattle.edit.proofs.Forest.{Forest, NoHoleRoots, sheet-is-forest, roots-of-sheet, forest-is-sheet}
 use Rattle.edit.proofs.Swapping.{Swapped, swapped-forest}
-use Rattle.edit.proofs.Exchanging.{parent-on, one-child, parent-apart, place-inside, ready, swapped}
+use Rattle.edit.proofs.HungRecords.{parent-on, one-child, parent-apart, place-inside, ready, swapped}
 use Rattle.edit.proofs.HungTrees.{clipping-tree, node-tree, sheet-tree, swapped-kept, swapped-link}
 
 module _ (g : Grammar) (ns ns′ : List Node) (few : length ns ≤ 1000) (r n q k : ℕ) (parent-used : Used ns q) (swapped : Swapped r n q k ns ns′) where

@@ -1,9 +1,10 @@
 pub mod Hanging
 pub mod Forest
 pub mod Swapping
-pub mod Exchanging
+pub mod HungRecords
 pub mod HungTrees
 pub mod Freshness
 pub mod Blanking
 pub mod Regrowing
 pub mod ExchangeDone
+pub mod Refused

@@ -82,3 +82,10 @@ module _ {R M : Type 0} (g : Grammar) (meaning : R → M) (nothing : M) (before 
     pub clipping : ClippingRoot after n
     pub trees : (u : Tree) → Represents before root u → Regrown n u (λ r. r ≡ root → ⊥) before after
     pub handed-out : (t : Tree) → Represents before n t → Represents after n t
+
+  -- what a call of paste and one of exchange answer and leave
+  abbrev pub PasteCall : {A : Type 0} → ℕ → ℕ → Result A EditFault → Type 0
+  PasteCall root n = Edited (paste-checks g before (length values) root n) (λ a. PasteWork root n)
+
+  abbrev pub ExchangeCall : {A : Type 0} → ℕ → ℕ → Result A EditFault → Type 0
+  ExchangeCall root n = Edited (exchange-checks g before (length values) root n) (λ a. ExchangeWork root n)

@@ -1,8 +1,10 @@
 // The work of the edits on records and rows.
 mod clipping_checks;
+pub mod exchanging;
 pub mod fault;
 pub mod fresh;
 mod hang;
 pub mod rows;
 
+pub use exchanging::exchange;
 pub use fault::EditFault;

@@ -1,0 +1,16 @@
+-- A refused edit: the fault of its checks is its answer, and nothing has been written.
+use mathlib.Core.Path.{_≡_, refl, sym, subst}
+use mathlib.Core.List.{List}
+use Rattle.std.specs.Results.{ErrBy}
+use Rattle.std.specs.declared.result.Result.{Result}
+use Rattle.std.specs.declared.result.Result.the-variants.{Ok, Err}
+use Rattle.grammar.specs.Grammar.{Grammar}
+use Rattle.table.specs.declared.node.Node.{Node}
+use Rattle.table.specs.Refusals.{Check, First}
+use Rattle.edit.specs.declared.fault.EditFault.{EditFault}
+use Rattle.edit.specs.Calls.{Edited}
+
+pub refused : {R M A : Type 0} (g : Grammar) (meaning : R → M) (nothing : M) (ns : List Node) (values : List R) (checks : List (Check EditFault)) (Work : A → Type 0) (e : EditFault) (r : Result A EditFault)
+  → First checks e → ErrBy r (λ f. f ≡ e) → Edited g meaning nothing ns values ns values checks Work r
+refused g meaning nothing ns values checks Work e (Ok a) w k = absurd k
+refused g meaning nothing ns values checks Work e (Err f) w k = (subst (λ (x : EditFault). First checks x) (sym k) w, refl, refl)
