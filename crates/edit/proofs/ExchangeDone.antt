@@ -1,7 +1,6 @@
 -- A clipping's root hung in the place of a node on the sheet is what exchange is to do.
 use mathlib.Core.Path.{_≡_, refl, sym, subst, _∙_, ap}
 use mathlib.Core.List.{List}
-use mathlib.Core.Logic.{inl, inr}
 use Prim.Native.Nat.{ℕ, _≤_, _<_}
 use native.Mathlib.Omega.{arith}
 use lib.ListN.{length}
@@ -11,32 +10,15 @@ use Rattle.table.specs.Nodes.{none, at, child-field, Used}
 use Rattle.table.specs.Climbing.{Climb}
 use Rattle.table.specs.Sheets.{Sheet, ClippingRoot, OneChildOf, Hole}
 use Rattle.table.proofs.Climbs.{climb-used}
-use Rattle.table.proofs.Reading.{never-none}
 use Rattle.table.proofs.Members.{AtMostThree}
 use Rattle.table.proofs.Frame.{Kept}
-use Rattle.table.proofs.Replaced.{equal-or-not}
 use Rattle.edit.specs.Edits.{Exchanged}
 use Rattle.edit.specs.Calls.{ExchangeWork}
-use Rattle.edit.proofs.Forest.{Forest, NoHoleRoots, sheet-is-forest, roots-of-sheet, forest-is-sheet}
+use Rattle.edit.proofs.Forest.{Forest, sheet-is-forest, roots-of-sheet, forest-is-sheet}
 use Rattle.edit.proofs.Swapping.{Swapped, swapped-forest}
 use Rattle.edit.proofs.HungRecords.{parent-on, one-child, parent-apart, place-inside, ready, swapped}
+use Rattle.edit.proofs.HungRoots.{no-hole-roots}
 use Rattle.edit.proofs.HungTrees.{clipping-tree, node-tree, sheet-tree, swapped-kept, swapped-link}
-
-module _ (g : Grammar) (ns ns′ : List Node) (few : length ns ≤ 1000) (r n q k : ℕ) (parent-used : Used ns q) (swapped : Swapped r n q k ns ns′) where
-  used-before : (x : ℕ) → Used ns′ x → Used ns x
-  used-before x u = (omega (arith, u .0, swapped .many), sym (swapped .used x) ∙ u .1)
-
-  -- The node is a root after, and no root after but the node is one that was none before; the hung root is none any more.
-  pub no-hole-roots : ((x : ℕ) → Used ns x → (x ≡ 0 → ⊥) → (x ≡ r → ⊥) → at ns x .parent ≡ none → Hole g (at ns x .production) → ⊥) → (Hole g (at ns n .production) → ⊥) → NoHoleRoots g ns′
-  no-hole-roots before no-hole x u other p hole =
-      let hole′ : Hole g (at ns x .production) = subst (λ (i : ℕ). Hole g i) (swapped .production x) hole in
-      elim (equal-or-not x r) [
-        | inl a ↦ never-none ns few q parent-used (sym (swapped .parent-r) ∙ subst (λ (i : ℕ). at ns′ i .parent ≡ none) (a .1) p)
-        | inr a ↦ elim (equal-or-not x n) [
-          | inl b ↦ no-hole (subst (λ (i : ℕ). Hole g (at ns i .production)) (b .1) hole′)
-          | inr b ↦ before x (used-before x u) other (a .1) (sym (swapped .parent-other x (a .1) (b .1)) ∙ p) hole′
-        ]
-      ]
 
 module _ {R M : Type 0} (g : Grammar) (meaning : R → M) (nothing : M) (three : AtMostThree g) (ns ns′ : List Node) (values values′ : List R) (r n : ℕ) (few : length ns ≤ 1000) (sheet : Sheet g ns) (at-root : ClippingRoot ns r) (on : Climb ns 0 n) (place : (Hole g (at ns n .production) → ⊥) × (n ≡ 0 → ⊥)) (symbol : g .symbol (at ns r .production) ≡ g .symbol (at ns n .production)) where
   forest : Forest g ns

@@ -6,5 +6,7 @@ pub mod HungTrees
 pub mod Freshness
 pub mod Blanking
 pub mod Regrowing
+pub mod HungRoots
 pub mod ExchangeDone
 pub mod Refused
+pub mod OneRecord

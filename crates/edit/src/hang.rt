@@ -1,9 +1,10 @@
-// The step that cut, paste and exchange share: a root is hung in a node's place.
+// The steps that cut, paste and exchange are made of: a root is hung in a node's place, a node becomes free, and a hole is put down.
 ghost use mathlib.Core.Path.{_≡_};
 ghost use Prim.Native.Nat.{ℕ, _<_};
-ghost use lib.ListN.{length};
-ghost use Rattle.table.specs.Nodes.{at as record-at, child-field};
+ghost use lib.ListN.{length, set};
+ghost use Rattle.table.specs.Nodes.{none, child-field};
 ghost use Rattle.edit.specs.Edits.{Exchanged, Hangable};
+ghost use Rattle.edit.specs.Fresh.{free-record, hole-record};
 use table::NONE;
 use table::Node;
 
@@ -39,4 +40,20 @@ pub(crate) fn hang(nodes: &mut [Node], root: u16, node: u16)
     nodes[parent as usize].children[place] = root;
     nodes[root as usize].parent = parent;
     nodes[node as usize].parent = NONE;
+}
+
+// Makes a node free.
+pub(crate) fn free_node(nodes: &mut [Node], n: u16)
+    requires { ⌜ n < length (now nodes) ⌝ }
+    ensures { λ _. ⌜ now (nodes .exit) ≡ set (now (nodes .entry)) n free-record ⌝ }
+{
+    nodes[n as usize] = Node { used: false, production: 0, literal: 0, parent: NONE, children: [NONE, NONE, NONE] };
+}
+
+// Puts a hole down as a root.
+pub(crate) fn put_hole(nodes: &mut [Node], n: u16, symbol: u8)
+    requires { ⌜ n < length (now nodes) ⌝ }
+    ensures { λ _. ⌜ now (nodes .exit) ≡ set (now (nodes .entry)) n (hole-record symbol none) ⌝ }
+{
+    nodes[n as usize] = Node { used: true, production: symbol, literal: 0, parent: NONE, children: [NONE, NONE, NONE] };
 }
