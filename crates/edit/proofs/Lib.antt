@@ -10,3 +10,4 @@ pub mod HungRoots
 pub mod ExchangeDone
 pub mod Refused
 pub mod OneRecord
+pub mod PasteDone
