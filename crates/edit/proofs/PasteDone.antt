@@ -133,15 +133,15 @@ module _ {R M : Type 0} (g : Grammar) (text : ℕ → List Segment) (limits : Li
       no-other-hole-roots g ns mid few r n q k q-used change (λ y v y-other y-root. roots-of-sheet g ns sheet few y v y-other) x
       (omega (arith, u .0, many), sym (ap (λ (nd : Node). nd .used) e) ∙ u .1) x-other no-node (sym (ap (λ (nd : Node). nd .parent) e) ∙ p) (subst (λ (nd : Node). Hole g (nd .production)) e h)
 
-  pub paste-done : values′ ≡ values → PasteWork g meaning nothing ns values (set mid n free-record) values′ r n
-  paste-done unchanged = record {
+  pub paste-done : (ns′ : List Node) → ns′ ≡ set mid n free-record → values′ ≡ values → PasteWork g meaning nothing ns values ns′ values′ r n
+  paste-done ns′ is unchanged = subst (λ (z : List Node). PasteWork g meaning nothing ns values z values′ r n) (sym is) (record {
       records = pasted; same-values = unchanged;
       sheet = forest-is-sheet g after after-forest roots;
       trees = λ u rep. record {
         sheet-tree = λ t rep′. sheet-tree g ns after sheet few three n q k r on refl q-on inside (child .named) kept link u t (clipping-tree g ns after sheet few three n q k r on refl q-on inside (child .named) kept r u at-root rep) rep′;
         clippings = λ c t at-c c-other rep′. clipping-tree g ns after sheet few three n q k r on refl q-on inside (child .named) kept c t at-c rep′;
       };
-    }
+    })
     where
       inside : k < 3
       inside = place-inside g ns few three forest r n at-root on other

@@ -4,7 +4,9 @@ pub mod exchanging;
 pub mod fault;
 pub mod fresh;
 mod hang;
+pub mod pasting;
 pub mod rows;
 
 pub use exchanging::exchange;
 pub use fault::EditFault;
+pub use pasting::paste;
