@@ -8,6 +8,8 @@ pub mod Blanking
 pub mod Regrowing
 pub mod HungRoots
 pub mod ExchangeDone
-pub mod Refused
 pub mod OneRecord
 pub mod PasteDone
+pub mod Editing
+pub mod Checking
+pub mod Relabelling

@@ -24,14 +24,15 @@ use Rattle.edit.specs.Checks.{insert-checks, cut-checks, paste-checks, exchang
 abbrev pub hole-tree : ℕ → ℕ → Tree
 hole-tree n s = node n s (pos 0) Tree.none Tree.none Tree.none
 
+-- the trees of holes at some nodes, one for each symbol
+abbrev pub hole-trees : List ℕ → List ℕ → List Tree
+hole-trees [] symbols = []
+hole-trees (n ∷ ns) [] = []
+hole-trees (n ∷ ns) (s ∷ symbols) = hole-tree n s ∷ hole-trees ns symbols
+
 -- the hole for child k of a production, at one of some new nodes, and nothing where there is no such child
 abbrev pub hole-at-place : Grammar → ℕ → List ℕ → ℕ → Tree
-hole-at-place g p new k = getD (holes new (g .children p)) k Tree.none
-  where
-    holes : List ℕ → List ℕ → List Tree
-    holes [] symbols = []
-    holes (n ∷ ns) [] = []
-    holes (n ∷ ns) (s ∷ symbols) = hole-tree n s ∷ holes ns symbols
+hole-at-place g p new k = getD (hole-trees new (g .children p)) k Tree.none
 
 -- The tree under node 0 has another subtree in a node's place, and the trees of the clippings that are kept are as they were.
 pub record Regrown (n : ℕ) (new : Tree) (kept : ℕ → Type 0) (before after : List Node) : Type 0 where
@@ -89,3 +90,10 @@ module _ {R M : Type 0} (g : Grammar) (meaning : R → M) (nothing : M) (before 
 
   abbrev pub ExchangeCall : {A : Type 0} → ℕ → ℕ → Result A EditFault → Type 0
   ExchangeCall root n = Edited (exchange-checks g before (length values) root n) (λ a. ExchangeWork root n)
+
+  -- What insert and retype answer and leave.
+  abbrev pub InsertCall : {A : Type 0} → ℕ → ℕ → ℤ → Result A EditFault → Type 0
+  InsertCall n p l = Edited (insert-checks g before (length values) n p l) (λ a. InsertWork n p l)
+
+  abbrev pub RetypeCall : {A : Type 0} → ℕ → ℤ → Result A EditFault → Type 0
+  RetypeCall n l = Edited (retype-checks g before (length values) n l) (λ a. RetypeWork n l)

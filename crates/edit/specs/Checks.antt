@@ -35,10 +35,13 @@ clipping-at ns root = want (ClippingRoot ns root) NoClipping
 abbrev pub same-symbol : Grammar → List Node → ℕ → ℕ → Check EditFault
 same-symbol g ns root n = want (g .symbol (production-at ns root) ≡ g .symbol (production-at ns n)) (WrongSymbol n)
 
--- the production exists, is no hole and is of the node's symbol
+-- production p exists, is no hole and is of another production's symbol
+abbrev pub Fitting : Grammar → ℕ → ℕ → Type 0
+Fitting g other p = (p < g .productions) × (Hole g p → ⊥) × (g .symbol p ≡ g .symbol other)
+
+-- the production is one that fits at the node
 abbrev pub fitting-production : Grammar → List Node → ℕ → ℕ → Check EditFault
-fitting-production g ns n p =
-    want ((p < g .productions) × (Hole g p → ⊥) × (g .symbol p ≡ g .symbol (production-at ns n))) (WrongSymbol n)
+fitting-production g ns n p = want (Fitting g (production-at ns n) p) (WrongSymbol n)
 
 -- the literal is accepted
 abbrev pub accepted-literal : Grammar → ℕ → ℤ → ℕ → Check EditFault
@@ -57,10 +60,13 @@ module _ (g : Grammar) (ns : List Node) (values : ℕ) where
   abbrev pub with-a-clipping : ℕ → ℕ → List (Check EditFault)
   with-a-clipping root n = lifted Table (beginning g ns values) ++ (clipping-at ns root ∷ lifted Table (on-sheet ns n ∷ []))
 
+  -- insert's last check is that enough nodes are free
+  abbrev pub insert-checks-but-free : ℕ → ℕ → ℤ → List (Check EditFault)
+  insert-checks-but-free n p l =
+      at-a-node n ++ (hole-at g ns n ∷ fitting-production g ns n p ∷ accepted-literal g p l n ∷ [])
+
   abbrev pub insert-checks : ℕ → ℕ → ℤ → List (Check EditFault)
-  insert-checks n p l =
-      at-a-node n
-      ++ (hole-at g ns n ∷ fitting-production g ns n p ∷ accepted-literal g p l n ∷ enough-free ns (length (g .children p)) n ∷ [])
+  insert-checks n p l = insert-checks-but-free n p l ++ (enough-free ns (length (g .children p)) n ∷ [])
 
   abbrev pub cut-checks : ℕ → List (Check EditFault)
   cut-checks n = at-a-node n ++ (no-hole-at g ns n ∷ enough-free ns 1 n ∷ [])

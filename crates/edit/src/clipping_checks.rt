@@ -2,8 +2,6 @@
 ghost use mathlib.Core.List.{[], _∷_};
 ghost use Prim.Native.Nat.{_<_};
 ghost use lib.ListN.{length};
-ghost use Rattle.std.specs.Orderings.{When};
-ghost use Rattle.table.specs.Sheets.{Hole};
 ghost use Rattle.table.specs.Refusals.{Answer};
 ghost use Rattle.edit.specs.Checks.{hole-at, no-hole-at, same-symbol, with-a-clipping, exchange-checks, paste-checks};
 use crate::fault::EditFault;
@@ -13,16 +11,7 @@ use table::Node;
 use table::begin;
 use table::check_on_sheet;
 use table::is_clipping_root;
-
-// Whether a production is a hole.
-pub(crate) fn is_hole<L: Language>(language: &L, production: u8) -> bool
-    ensures { λ r. ⌜ When r (Hole (grammar (now (language .entry))) production) (Hole (grammar (now (language .entry))) production → ⊥) ⌝ }
-{
-    if production == 0 {
-        return false;
-    }
-    production < language.symbols()
-}
+use table::is_hole;
 
 // What every edit with a clipping checks first.
 fn check_with_clipping<L: Language>(language: &L, nodes: &[Node], values: usize, root: u16, n: u16) -> Result<(), EditFault>

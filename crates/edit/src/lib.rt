@@ -1,12 +1,15 @@
 // The work of the edits on records and rows.
+mod checks;
 mod clipping_checks;
 pub mod exchanging;
 pub mod fault;
 pub mod fresh;
 mod hang;
 pub mod pasting;
+pub mod retyping;
 pub mod rows;
 
 pub use exchanging::exchange;
 pub use fault::EditFault;
 pub use pasting::paste;
+pub use retyping::retype;

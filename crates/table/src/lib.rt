@@ -20,5 +20,6 @@ pub use free::free_count;
 pub use free::highest_free;
 pub use node::NONE;
 pub use node::Node;
+pub use sheet_test::is_hole;
 pub use sheet_test::is_sheet;
 pub use stack::Stack;

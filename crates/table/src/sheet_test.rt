@@ -17,7 +17,7 @@ use crate::record_test::no_child_from;
 use grammar::Language;
 
 // Whether a production is a hole.
-fn is_hole<L: Language>(language: &L, production: u8) -> bool
+pub fn is_hole<L: Language>(language: &L, production: u8) -> bool
     ensures { λ r. ⌜ When r (Hole (grammar (now (language .entry))) production) (Hole (grammar (now (language .entry))) production → ⊥) ⌝ }
 {
     if production == 0 {

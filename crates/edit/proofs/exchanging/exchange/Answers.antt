@@ -6,7 +6,7 @@ use Rattle.edit.specs.Calls.{ExchangeWork}
 use Rattle.edit.proofs.Forest.{sheet-is-forest}
 use Rattle.edit.proofs.HungRecords.{hangable}
 use Rattle.edit.proofs.ExchangeDone.{exchange-done}
-use Rattle.edit.proofs.Refused.{refused}
+use Rattle.edit.proofs.Editing.{refused}
 use Rattle.edit.proofs.exchanging.exchange.Needs as need
 
 pub returns-in-Break-check-exchange : need.returns-in-Break-check-exchange

@@ -8,7 +8,7 @@ use Rattle.edit.specs.Calls.{PasteWork}
 use Rattle.edit.proofs.Forest.{sheet-is-forest}
 use Rattle.edit.proofs.HungRecords.{hangable}
 use Rattle.edit.proofs.PasteDone.{hole-elsewhere, paste-done}
-use Rattle.edit.proofs.Refused.{refused}
+use Rattle.edit.proofs.Editing.{refused}
 use Rattle.edit.proofs.pasting.paste.Needs as need
 
 pub returns-in-Break-check-paste : need.returns-in-Break-check-paste
