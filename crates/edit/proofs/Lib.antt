@@ -13,3 +13,4 @@ pub mod PasteDone
 pub mod Editing
 pub mod Checking
 pub mod Relabelling
+pub mod CutDone

@@ -116,10 +116,19 @@ module _ (g : Grammar) (ns ns′ : List Node) (y : ℕ) (many : length ns′ ≡
         | inr a ↦ subst Blank (sym (same x (a .1))) (forest .blank x (omega (arith, many)) (sym (ap (λ (nd : Node). nd .used) (same x (a .1))) ∙ e))
       ]
 
+  -- a used node is not the free one
+  pub not-there : at ns y .used ≡ false → (x : ℕ) → Used ns x → x ≡ y → ⊥
+  not-there free x u e = not-both (at ns x .used) (u .1) (subst (λ (i : ℕ). at ns i .used ≡ false) (sym e) free)
+
+  -- where a free node's record changes, every climb stays
+  pub climb-stays : at ns y .used ≡ false → (r x : ℕ) → Climb ns r x → Climb ns′ r x
+  climb-stays free r x (ends u p e) = ends (used-after x (not-there free x u) u) (ap (λ (nd : Node). nd .parent) (same x (not-there free x u)) ∙ p) e
+  climb-stays free r x (goes-on m u p c) = goes-on m (used-after x (not-there free x u) u) (ap (λ (nd : Node). nd .parent) (same x (not-there free x u)) ∙ p) (climb-stays free r m c)
+
   -- a hole is put down at a free node, as a root
   pub fresh-forest : {text : ℕ → List Segment} → Limits g text → length ns ≤ 1000 → Forest g ns → (s : ℕ) → 0 < s → s < g .symbols → y < length ns → at ns y .used ≡ false → at ns′ y ≡ hole-record s none → Forest g ns′
   fresh-forest limits few forest s positive few-symbols inside free put = record {
-      root-used = used-after 0 (not-there 0 (forest .root-used)) (forest .root-used);
+      root-used = used-after 0 (not-there free 0 (forest .root-used)) (forest .root-used);
       tended = tended;
       blank = λ x h e. elim (equal-or-not x y) [
         | inl a ↦ absurd (not-both (at ns′ x .used) (subst (λ (i : ℕ). at ns′ i .used ≡ true) (sym (a .1)) (ap (λ (nd : Node). nd .used) put)) e)
@@ -127,21 +136,14 @@ module _ (g : Grammar) (ns ns′ : List Node) (y : ℕ) (many : length ns′ ≡
       ];
     }
     where
-      not-there : (x : ℕ) → Used ns x → x ≡ y → ⊥
-      not-there x u e = not-both (at ns x .used) (u .1) (subst (λ (i : ℕ). at ns i .used ≡ false) (sym e) free)
-
-      climbs : (r x : ℕ) → Climb ns r x → Climb ns′ r x
-      climbs r x (ends u p e) = ends (used-after x (not-there x u) u) (ap (λ (nd : Node). nd .parent) (same x (not-there x u)) ∙ p) e
-      climbs r x (goes-on m u p c) = goes-on m (used-after x (not-there x u) u) (ap (λ (nd : Node). nd .parent) (same x (not-there x u)) ∙ p) (climbs r m c)
-
       old : (x : ℕ) → Used ns x → Tended g ns′ x
       old x u =
           let t : Tended g ns x = forest .tended x u in
-          stays x (not-there x u) t (λ k h. not-there (child-field (at ns x) k) (t .children k h .used)) (λ o. parent-there (t .stands)) (t .climbs .0, climbs (t .climbs .0) x (t .climbs .1))
+          stays x (not-there free x u) t (λ k h. not-there free (child-field (at ns x) k) (t .children k h .used)) (λ o. parent-there (t .stands)) (t .climbs .0, climb-stays free (t .climbs .0) x (t .climbs .1))
         where
           parent-there : Stands g ns x → at ns x .parent ≡ y → ⊥
           parent-there (alone p) e = let z : y ≡ none = sym e ∙ p in omega arith
-          parent-there (hanging z v o) e = not-there (at ns x .parent) v e
+          parent-there (hanging z v o) e = not-there free (at ns x .parent) v e
 
       used-y : Used ns′ y
       used-y = (omega (arith, many), ap (λ (nd : Node). nd .used) put)
@@ -149,7 +151,7 @@ module _ (g : Grammar) (ns ns′ : List Node) (y : ℕ) (many : length ns′ ≡
       new : Tended g ns′ y
       new = record {
           production-exists = subst (λ (nd : Node). nd .production < g .productions) (sym put) (limits .hole s positive few-symbols .0);
-          start = ((λ e. absurd (not-there y (subst (λ (i : ℕ). Used ns i) (sym e) (forest .root-used)) refl)), (λ e. absurd (let z : s ≡ 0 = sym (ap (λ (nd : Node). nd .production) put) ∙ e in omega arith)));
+          start = ((λ e. absurd (not-there free y (subst (λ (i : ℕ). Used ns i) (sym e) (forest .root-used)) refl)), (λ e. absurd (let z : s ≡ 0 = sym (ap (λ (nd : Node). nd .production) put) ∙ e in omega arith)));
           literal-accepted = subst (λ (nd : Node). T (g .accepts (nd .production) (nd .literal))) (sym put) (limits .zero-alone s few-symbols .0);
           children = λ k h. absurd (let h′ : k < length (g .children s) = subst (λ (nd : Node). k < length (g .children (nd .production))) put h in omega (arith, ap (λ (xs : List ℕ). length xs) (limits .hole s positive few-symbols .2)));
           no-further = λ k h l. ap (λ (nd : Node). child-field nd k) put ∙ no-children k l;

@@ -84,7 +84,10 @@ module _ {R M : Type 0} (g : Grammar) (meaning : R → M) (nothing : M) (before 
     pub trees : (u : Tree) → Represents before root u → Regrown n u (λ r. r ≡ root → ⊥) before after
     pub handed-out : (t : Tree) → Represents before n t → Represents after n t
 
-  -- what a call of paste and one of exchange answer and leave
+  -- What cut, paste and exchange answer and leave; cut answers the new hole's number.
+  abbrev pub CutCall : ℕ → Result ℕ EditFault → Type 0
+  CutCall n = Edited (cut-checks g before (length values) n) (λ hole. CutWork n hole)
+
   abbrev pub PasteCall : {A : Type 0} → ℕ → ℕ → Result A EditFault → Type 0
   PasteCall root n = Edited (paste-checks g before (length values) root n) (λ a. PasteWork root n)
 

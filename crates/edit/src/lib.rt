@@ -1,6 +1,7 @@
 // The work of the edits on records and rows.
 mod checks;
 mod clipping_checks;
+pub mod cutting;
 pub mod exchanging;
 pub mod fault;
 pub mod fresh;
@@ -9,6 +10,7 @@ pub mod pasting;
 pub mod retyping;
 pub mod rows;
 
+pub use cutting::cut;
 pub use exchanging::exchange;
 pub use fault::EditFault;
 pub use pasting::paste;
