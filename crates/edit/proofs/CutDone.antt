@@ -30,6 +30,10 @@ use Rattle.edit.proofs.HungRecords.{one-child, parent-apart, place-inside, han
 use Rattle.edit.proofs.HungRoots.{no-hole-roots}
 use Rattle.edit.proofs.HungTrees.{clipping-tree, node-tree, sheet-tree, swapped-kept, swapped-link}
 
+-- the hole that the code puts down
+pub placed : (ns mid : List Node) (h s s′ : ℕ) → mid ≡ set ns h (hole-record s′ none) → s′ ≡ s → mid ≡ set ns h (hole-record s none)
+placed ns mid h s s′ e f = e ∙ ap (λ (i : ℕ). set ns h (hole-record i none)) f
+
 -- Node h is the highest free one, and a hole of the node's symbol is put down there.
 module _ (g : Grammar) (text : ℕ → List Segment) (limits : Limits g text) (ns : List Node) (n h : ℕ) (few : length ns ≤ 1000) (sheet : Sheet g ns) (on : Climb ns 0 n) (place : (Hole g (at ns n .production) → ⊥) × (n ≡ 0 → ⊥)) (next : NextFree ns (length ns) h) where
   abbrev s : ℕ

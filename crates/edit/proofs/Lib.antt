@@ -14,3 +14,4 @@ pub mod Editing
 pub mod Checking
 pub mod Relabelling
 pub mod CutDone
+pub mod Relayed
