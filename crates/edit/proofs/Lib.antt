@@ -1,3 +1,8 @@
+pub mod Hanging
+pub mod Forest
+pub mod Swapping
+pub mod HungRecords
+pub mod HungTrees
 pub mod Freshness
 pub mod Blanking
 pub mod FreedClipping
@@ -6,9 +11,15 @@ pub mod Refused
 pub mod Listing
 pub mod Starting
 pub mod Regrowing
+pub mod HungRoots
+pub mod ExchangeDone
+pub mod OneRecord
+pub mod PasteDone
 pub mod Editing
 pub mod Checking
 pub mod NewNodes
 pub mod Filled
 pub mod Filling
 pub mod Relabelling
+pub mod CutDone
+pub mod Relayed

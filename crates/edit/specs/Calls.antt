@@ -112,6 +112,16 @@ module _ {R M : Type 0} (g : Grammar) (meaning : R → M) (nothing : M) (before 
   abbrev pub MakeCall : {A : Type 0} → Result A EditFault → Type 0
   MakeCall r = Edited (make-checks g before (length values)) (λ a. MakeWork) r
 
+  -- What cut, paste and exchange answer and leave; cut answers the new hole's number.
+  abbrev pub CutCall : ℕ → Result ℕ EditFault → Type 0
+  CutCall n = Edited (cut-checks g before (length values) n) (λ hole. CutWork n hole)
+
+  abbrev pub PasteCall : {A : Type 0} → ℕ → ℕ → Result A EditFault → Type 0
+  PasteCall root n = Edited (paste-checks g before (length values) root n) (λ a. PasteWork root n)
+
+  abbrev pub ExchangeCall : {A : Type 0} → ℕ → ℕ → Result A EditFault → Type 0
+  ExchangeCall root n = Edited (exchange-checks g before (length values) root n) (λ a. ExchangeWork root n)
+
   -- What insert and retype answer and leave.
   abbrev pub InsertCall : {A : Type 0} → ℕ → ℕ → ℤ → Result A EditFault → Type 0
   InsertCall n p l = Edited (insert-checks g before (length values) n p l) (λ a. InsertWork n p l)
