@@ -9,7 +9,7 @@ use table::NONE;
 use table::Node;
 
 // The highest free node below a number, if any is free there.
-pub fn next_free(nodes: &[Node], below: u16) -> Option<u16>
+pub(crate) fn next_free(nodes: &[Node], below: u16) -> Option<u16>
     requires { ⌜ below ≤ length (now nodes) ⌝ }
     ensures { λ r. ⌜ BySome r (free-below (now (nodes .entry)) below ≡ []) (NextFree (now (nodes .entry)) below) ⌝ }
 {
@@ -22,7 +22,7 @@ pub fn next_free(nodes: &[Node], below: u16) -> Option<u16>
 }
 
 // The child fields for some new nodes, none where too few are free.
-pub fn new_nodes(nodes: &[Node], count: usize) -> Option<[u16; 3]>
+pub(crate) fn new_nodes(nodes: &[Node], count: usize) -> Option<[u16; 3]>
     requires { ⌜ length (now nodes) ≤ 1000 ⌝ ∗ ⌜ count ≤ 3 ⌝ }
     ensures { λ r. ⌜ BySome r (length (free-numbers (now (nodes .entry))) < count) (NewNodes (now (nodes .entry)) count) ⌝ }
 {

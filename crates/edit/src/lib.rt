@@ -1,18 +1,18 @@
 // The work of the calls that change a sheet, on records and rows: make, insert, cut, paste, exchange, retype and discard.
 mod checks;
 mod clipping_checks;
-pub mod cutting;
-pub mod discarding;
-pub mod exchanging;
+mod cutting;
+mod discarding;
+mod exchanging;
 pub mod fault;
-pub mod fresh;
+mod fresh;
 mod hang;
-pub mod inserting;
-pub mod making;
-pub mod pasting;
+mod inserting;
+mod making;
+mod pasting;
 mod records;
-pub mod retyping;
-pub mod rows;
+mod retyping;
+mod rows;
 
 pub use cutting::cut;
 pub use discarding::discard;

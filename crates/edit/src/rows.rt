@@ -16,7 +16,7 @@ fn put_row<R: Copy>(values: &mut [R], f: usize, row: R)
 }
 
 // Makes the four values of a node blank.
-pub fn blank_node<L: Language>(values: &mut [L::Row], n: u16)
+pub(crate) fn blank_node<L: Language>(values: &mut [L::Row], n: u16)
     requires { ⌜ 4 * n + 4 ≤ length (now values) ⌝ }
     ensures { λ _. ⌜ Blanked (λ row. Value·Figure .means (Value·Figure .reads row)) (Value·Figure .nothing) (n ∷ []) (now (values .entry)) (now (values .exit)) ⌝ }
 {
