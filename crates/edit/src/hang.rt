@@ -3,8 +3,9 @@ ghost use mathlib.Core.Path.{_≡_};
 ghost use Prim.Native.Nat.{ℕ, _<_};
 ghost use lib.ListN.{length, set};
 ghost use Rattle.table.specs.Nodes.{none, child-field};
-ghost use Rattle.edit.specs.Edits.{Exchanged, Hangable};
+ghost use Rattle.edit.specs.Edits.{Exchanged};
 ghost use Rattle.edit.specs.Fresh.{free-record, hole-record};
+ghost use Rattle.edit.specs.Hanging.{Hangable};
 use table::NONE;
 use table::Node;
 
