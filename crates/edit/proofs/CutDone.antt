@@ -162,8 +162,14 @@ module _ (g : Grammar) (text : ℕ → List Segment) (limits : Limits g text) (n
           hole-is = hole-is;
           root-is = exchanged .node-is ∙ ap (λ (nd : Node). with-parent nd none) (same-used n n-used);
           link = record {
-            used = l .used ∙ ap (λ (nd : Node). nd .used) e; production = l .production ∙ ap (λ (nd : Node). nd .production) e; literal = l .literal ∙ ap (λ (nd : Node). nd .literal) e; parent = l .parent ∙ ap (λ (nd : Node). nd .parent) e;
-            place = l .place; inside = l .inside; named = sym (ap (λ (nd : Node). child-field nd (l .place)) e) ∙ l .named; children = l .children ∙ ap (λ (nd : Node). set (nd .children) (l .place) h) e;
+            used = l .used ∙ ap (λ (nd : Node). nd .used) e;
+            production = l .production ∙ ap (λ (nd : Node). nd .production) e;
+            literal = l .literal ∙ ap (λ (nd : Node). nd .literal) e;
+            parent = l .parent ∙ ap (λ (nd : Node). nd .parent) e;
+            place = l .place;
+            inside = l .inside;
+            named = sym (ap (λ (nd : Node). child-field nd (l .place)) e) ∙ l .named;
+            children = l .children ∙ ap (λ (nd : Node). set (nd .children) (l .place) h) e;
           };
           others = record { many = exchanged .others .many ∙ many; same = λ x out. exchanged .others .same x (λ i. out (subst (λ (j : ℕ). In x (n ∷ h ∷ j ∷ [])) same-parent i)) ∙ same x (λ f. out (inr (inl f))) };
         }
@@ -189,18 +195,24 @@ module _ (g : Grammar) (text : ℕ → List Segment) (limits : Limits g text) (n
 
     new-tree : Represents after h (hole-tree h s)
     new-tree = (
-      refl, (omega (arith, next .lower, exchanged .others .many, many), ap (λ (nd : Node). nd .used) hole-is), ap (λ (nd : Node). nd .production) hole-is, ap (λ (nd : Node). nd .literal) hole-is,
-      ap (λ (nd : Node). child-field nd 0) hole-is, ap (λ (nd : Node). child-field nd 1) hole-is, ap (λ (nd : Node). child-field nd 2) hole-is,
+      refl,
+      (omega (arith, next .lower, exchanged .others .many, many), ap (λ (nd : Node). nd .used) hole-is),
+      ap (λ (nd : Node). nd .production) hole-is,
+      ap (λ (nd : Node). nd .literal) hole-is,
+      ap (λ (nd : Node). child-field nd 0) hole-is,
+      ap (λ (nd : Node). child-field nd 1) hole-is,
+      ap (λ (nd : Node). child-field nd 2) hole-is,
     )
 
     pub cut-done : Blanked meaning nothing (h ∷ []) values values′ → CutWork g meaning nothing ns values after values′ n h
     cut-done blanked = record {
-        records = cut-out; blanked = blanked;
-        sheet = forest-is-sheet g after after-forest roots;
-        clipping = ((omega (arith, n-used .0, exchanged .others .many, many), kept-all n n-used (λ e. q-apart (sym e)) .used .1), place .1, change .parent-n);
-        trees = record {
-          sheet-tree = λ t rep. sheet-tree g ns after sheet few three n q k h on refl q-on inside named kept link (hole-tree h s) t new-tree rep;
-          clippings = λ c t at-c any rep. clipping-tree g ns after sheet few three n q k h on refl q-on inside named kept c t at-c rep;
-        };
-        handed-out = node-tree g ns after sheet few three n q k h on refl q-on inside named kept (kept-all n n-used (λ e. q-apart (sym e)));
-      }
+      records = cut-out;
+      blanked = blanked;
+      sheet = forest-is-sheet g after after-forest roots;
+      clipping = ((omega (arith, n-used .0, exchanged .others .many, many), kept-all n n-used (λ e. q-apart (sym e)) .used .1), place .1, change .parent-n);
+      trees = record {
+        sheet-tree = λ t rep. sheet-tree g ns after sheet few three n q k h on refl q-on inside named kept link (hole-tree h s) t new-tree rep;
+        clippings = λ c t at-c any rep. clipping-tree g ns after sheet few three n q k h on refl q-on inside named kept c t at-c rep;
+      };
+      handed-out = node-tree g ns after sheet few three n q k h on refl q-on inside named kept (kept-all n n-used (λ e. q-apart (sym e)));
+    }

@@ -26,15 +26,16 @@ module _ {R M : Type 0} (g : Grammar) (meaning : R → M) (nothing : M) (three :
 
   pub exchange-done : Exchanged r n ns ns′ → values′ ≡ values → ExchangeWork g meaning nothing ns values ns′ values′ r n
   exchange-done exchanged same = record {
-      records = exchanged; same-values = same;
-      sheet = forest-is-sheet g ns′ (swapped-forest g r n q k ns ns′ few forest (ready g ns few three forest r n at-root on (place .1) symbol) change) (no-hole-roots g ns ns′ few r n q k q-used change (λ x u other no-root. roots-of-sheet g ns sheet few x u other) (place .0));
-      clipping = ((omega (arith, n-used .0, change .many), change .used n ∙ n-used .1), place .1, change .parent-n);
-      trees = λ u rep. record {
-        sheet-tree = λ t rep′. sheet-tree g ns ns′ sheet few three n q k r on refl q-on inside (child .named) kept (swapped-link r n q k ns ns′ change q-used) u t (clipping-tree g ns ns′ sheet few three n q k r on refl q-on inside (child .named) kept r u at-root rep) rep′;
-        clippings = λ c t at-c other rep′. clipping-tree g ns ns′ sheet few three n q k r on refl q-on inside (child .named) kept c t at-c rep′;
-      };
-      handed-out = node-tree g ns ns′ sheet few three n q k r on refl q-on inside (child .named) kept (swapped-kept r n q k ns ns′ change n n-used (λ e. parent-apart g ns few three forest r n at-root on (place .1) (sym e)));
-    }
+    records = exchanged;
+    same-values = same;
+    sheet = forest-is-sheet g ns′ (swapped-forest g r n q k ns ns′ few forest (ready g ns few three forest r n at-root on (place .1) symbol) change) (no-hole-roots g ns ns′ few r n q k q-used change (λ x u other no-root. roots-of-sheet g ns sheet few x u other) (place .0));
+    clipping = ((omega (arith, n-used .0, change .many), change .used n ∙ n-used .1), place .1, change .parent-n);
+    trees = λ u rep. record {
+      sheet-tree = λ t rep′. sheet-tree g ns ns′ sheet few three n q k r on refl q-on inside (child .named) kept (swapped-link r n q k ns ns′ change q-used) u t (clipping-tree g ns ns′ sheet few three n q k r on refl q-on inside (child .named) kept r u at-root rep) rep′;
+      clippings = λ c t at-c other rep′. clipping-tree g ns ns′ sheet few three n q k r on refl q-on inside (child .named) kept c t at-c rep′;
+    };
+    handed-out = node-tree g ns ns′ sheet few three n q k r on refl q-on inside (child .named) kept (swapped-kept r n q k ns ns′ change n n-used (λ e. parent-apart g ns few three forest r n at-root on (place .1) (sym e)));
+  }
     where
       child : OneChildOf g ns (at ns n .parent) n
       child = one-child g ns few three forest r n at-root on (place .1)

@@ -39,10 +39,10 @@ NoHoleRoots g ns = (n : ℕ) → Used ns n → (n ≡ 0 → ⊥) → at ns n .pa
 module _ (g : Grammar) (ns : List Node) where
   pub sheet-is-forest : Sheet g ns → Forest g ns
   sheet-is-forest sheet = record {
-      root-used = sheet .root-used;
-      tended = λ n u. tend n (rw (u .1, Good) at (sheet .each n (u .0)));
-      blank = λ n h e. rw (e, Good) at (sheet .each n h);
-    }
+    root-used = sheet .root-used;
+    tended = λ n u. tend n (rw (u .1, Good) at (sheet .each n (u .0)));
+    blank = λ n h e. rw (e, Good) at (sheet .each n h);
+  }
     where
       stand : (n : ℕ) → Hangs g ns n → Stands g ns n
       stand n (root z p) = alone p
@@ -51,8 +51,14 @@ module _ (g : Grammar) (ns : List Node) where
 
       tend : (n : ℕ) → InOrder g ns n → Tended g ns n
       tend n o = record {
-          production-exists = o .production-exists; start = o .start; literal-accepted = o .literal-accepted; children = o .children; no-further = o .no-further; stands = stand n (o .hangs); climbs = o .climbs;
-        }
+        production-exists = o .production-exists;
+        start = o .start;
+        literal-accepted = o .literal-accepted;
+        children = o .children;
+        no-further = o .no-further;
+        stands = stand n (o .hangs);
+        climbs = o .climbs;
+      }
 
   pub roots-of-sheet : Sheet g ns → length ns ≤ 1000 → NoHoleRoots g ns
   roots-of-sheet sheet few n u other p hole = go (rw (u .1, Good) at (sheet .each n (u .0)) .hangs)
@@ -75,8 +81,14 @@ module _ (g : Grammar) (ns : List Node) where
 
       order : (n : ℕ) → Used ns n → Tended g ns n → InOrder g ns n
       order n u o = record {
-          production-exists = o .production-exists; start = o .start; literal-accepted = o .literal-accepted; children = o .children; no-further = o .no-further; hangs = hangs n u (o .stands); climbs = o .climbs;
-        }
+        production-exists = o .production-exists;
+        start = o .start;
+        literal-accepted = o .literal-accepted;
+        children = o .children;
+        no-further = o .no-further;
+        hangs = hangs n u (o .stands);
+        climbs = o .climbs;
+      }
 
       good : (n : ℕ) → n < length ns → (b : Bool) → at ns n .used ≡ b → Good g ns n
       good n h true e = rw (e, Good) (order n (h, e) (forest .tended n (h, e)))

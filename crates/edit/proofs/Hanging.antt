@@ -59,19 +59,25 @@ module _ (ns : List Node) (a b c : ℕ) (f h i : Node → Node) where
 
 -- the parent's child field, the root's parent and the node's parent are written
 pub hung : (ns : List Node) (root n place : ℕ) → Hangable ns root n → place < 3 → child-field (at ns (at ns n .parent)) place ≡ n
-  → Exchanged root n ns (third ns (at ns n .parent) root n (λ nd. with-child nd place root) (λ nd. with-parent nd (at ns n .parent)) (λ nd. with-parent nd none))
+    → Exchanged root n ns (third ns (at ns n .parent) root n (λ nd. with-child nd place root) (λ nd. with-parent nd (at ns n .parent)) (λ nd. with-parent nd none))
 hung ns root n place fits inside named = record {
-    root-is = third-at-b ns q root n f h i (fits .parent-inside) (fits .root-inside) (fits .node-inside) apart apart′ apart″;
-    node-is = third-at-c ns q root n f h i (fits .parent-inside) (fits .root-inside) (fits .node-inside) apart apart′ apart″;
-    link = record {
-      used = ap (λ (nd : Node). nd .used) at-q; production = ap (λ (nd : Node). nd .production) at-q; literal = ap (λ (nd : Node). nd .literal) at-q; parent = ap (λ (nd : Node). nd .parent) at-q;
-      place = place; inside = inside; named = named; children = ap (λ (nd : Node). nd .children) at-q;
-    };
-    others = record {
-      many = third-long ns q root n f h i (fits .parent-inside) (fits .root-inside) (fits .node-inside) apart apart′ apart″;
-      same = λ x out. third-elsewhere ns q root n f h i (fits .parent-inside) (fits .root-inside) (fits .node-inside) apart apart′ apart″ x (λ e. out (inr (inr (inl e)))) (λ e. out (inr (inl e))) (λ e. out (inl e));
-    };
-  }
+  root-is = third-at-b ns q root n f h i (fits .parent-inside) (fits .root-inside) (fits .node-inside) apart apart′ apart″;
+  node-is = third-at-c ns q root n f h i (fits .parent-inside) (fits .root-inside) (fits .node-inside) apart apart′ apart″;
+  link = record {
+    used = ap (λ (nd : Node). nd .used) at-q;
+    production = ap (λ (nd : Node). nd .production) at-q;
+    literal = ap (λ (nd : Node). nd .literal) at-q;
+    parent = ap (λ (nd : Node). nd .parent) at-q;
+    place = place;
+    inside = inside;
+    named = named;
+    children = ap (λ (nd : Node). nd .children) at-q;
+  };
+  others = record {
+    many = third-long ns q root n f h i (fits .parent-inside) (fits .root-inside) (fits .node-inside) apart apart′ apart″;
+    same = λ x out. third-elsewhere ns q root n f h i (fits .parent-inside) (fits .root-inside) (fits .node-inside) apart apart′ apart″ x (λ e. out (inr (inr (inl e)))) (λ e. out (inr (inl e))) (λ e. out (inl e));
+  };
+}
   where
     q : ℕ
     q = at ns n .parent

@@ -49,16 +49,30 @@ module _ (g : Grammar) (ns : List Node) (few : length ns ≤ 1000) (three : AtMo
 
   pub hangable : Hangable ns r n
   hangable = record {
-      root-inside = at-root .0 .0; node-inside = climb-used ns 0 n on .0; parent-inside = climb-used ns 0 (at ns n .parent) parent-on .0;
-      root-apart = λ e. no-root n on (sym e); parent-apart = parent-apart; parent-no-root = no-root (at ns n .parent) parent-on;
-      place = one-child .place; place-inside = place-inside; named = one-child .named;
-    }
+    root-inside = at-root .0 .0;
+    node-inside = climb-used ns 0 n on .0;
+    parent-inside = climb-used ns 0 (at ns n .parent) parent-on .0;
+    root-apart = λ e. no-root n on (sym e);
+    parent-apart = parent-apart;
+    parent-no-root = no-root (at ns n .parent) parent-on;
+    place = one-child .place;
+    place-inside = place-inside;
+    named = one-child .named;
+  }
 
   pub ready : g .symbol (at ns r .production) ≡ g .symbol (at ns n .production) → Ready g r n (at ns n .parent) (one-child .place) ns
   ready symbol = record {
-      root-used = at-root .0; root-alone = at-root .2; root-other = at-root .1; node-other = other; parent = refl; parent-used = climb-used ns 0 (at ns n .parent) parent-on; parent-climbs = parent-on;
-      place = one-child .inside; named = one-child .named; symbol = symbol;
-    }
+    root-used = at-root .0;
+    root-alone = at-root .2;
+    root-other = at-root .1;
+    node-other = other;
+    parent = refl;
+    parent-used = climb-used ns 0 (at ns n .parent) parent-on;
+    parent-climbs = parent-on;
+    place = one-child .inside;
+    named = one-child .named;
+    symbol = symbol;
+  }
 
   module _ (ns′ : List Node) (exchanged : Exchanged r n ns ns′) where
     -- the place found is the node's one place
@@ -92,16 +106,16 @@ module _ (g : Grammar) (ns : List Node) (few : length ns ≤ 1000) (three : AtMo
 
     pub swapped : Swapped r n (at ns n .parent) (one-child .place) ns ns′
     swapped = record {
-        many = exchanged .others .many;
-        used = everywhere (λ nd. nd .used) (ap (λ (nd : Node). nd .used) (exchanged .root-is)) (ap (λ (nd : Node). nd .used) (exchanged .node-is)) (exchanged .link .used);
-        production = everywhere (λ nd. nd .production) (ap (λ (nd : Node). nd .production) (exchanged .root-is)) (ap (λ (nd : Node). nd .production) (exchanged .node-is)) (exchanged .link .production);
-        literal = everywhere (λ nd. nd .literal) (ap (λ (nd : Node). nd .literal) (exchanged .root-is)) (ap (λ (nd : Node). nd .literal) (exchanged .node-is)) (exchanged .link .literal);
-        parent-r = ap (λ (nd : Node). nd .parent) (exchanged .root-is);
-        parent-n = ap (λ (nd : Node). nd .parent) (exchanged .node-is);
-        parent-other = parent-other;
-        child-k = ap (λ (cs : List ℕ). getD cs (one-child .place) 0) children-after ∙ getD-set-same (at ns (at ns n .parent) .children) (one-child .place) r 0 long;
-        child-other = child-other;
-      }
+      many = exchanged .others .many;
+      used = everywhere (λ nd. nd .used) (ap (λ (nd : Node). nd .used) (exchanged .root-is)) (ap (λ (nd : Node). nd .used) (exchanged .node-is)) (exchanged .link .used);
+      production = everywhere (λ nd. nd .production) (ap (λ (nd : Node). nd .production) (exchanged .root-is)) (ap (λ (nd : Node). nd .production) (exchanged .node-is)) (exchanged .link .production);
+      literal = everywhere (λ nd. nd .literal) (ap (λ (nd : Node). nd .literal) (exchanged .root-is)) (ap (λ (nd : Node). nd .literal) (exchanged .node-is)) (exchanged .link .literal);
+      parent-r = ap (λ (nd : Node). nd .parent) (exchanged .root-is);
+      parent-n = ap (λ (nd : Node). nd .parent) (exchanged .node-is);
+      parent-other = parent-other;
+      child-k = ap (λ (cs : List ℕ). getD cs (one-child .place) 0) children-after ∙ getD-set-same (at ns (at ns n .parent) .children) (one-child .place) r 0 long;
+      child-other = child-other;
+    }
       where
         parent-other : (x : ℕ) → (x ≡ r → ⊥) → (x ≡ n → ⊥) → at ns′ x .parent ≡ at ns x .parent
         parent-other x a b = elim (equal-or-not x (at ns n .parent)) [

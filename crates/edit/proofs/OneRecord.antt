@@ -40,14 +40,14 @@ module _ (g : Grammar) (ns ns′ : List Node) (y : ℕ) (many : length ns′ ≡
   -- a node other than the changed one, with other children and another parent, keeps what it kept
   stays : (x : ℕ) → (x ≡ y → ⊥) → Tended g ns x → ((k : ℕ) → k < length (g .children (at ns x .production)) → child-field (at ns x) k ≡ y → ⊥) → (OneChildOf g ns (at ns x .parent) x → at ns x .parent ≡ y → ⊥) → (s : ℕ) × Climb ns′ s x → Tended g ns′ x
   stays x other t child-other parent-other climbs = record {
-      production-exists = subst (λ (nd : Node). nd .production < g .productions) (sym same-x) (t .production-exists);
-      start = subst (λ (nd : Node). (x ≡ 0 → nd .production ≡ 0) × (nd .production ≡ 0 → x ≡ 0)) (sym same-x) (t .start);
-      literal-accepted = subst (λ (nd : Node). T (g .accepts (nd .production) (nd .literal))) (sym same-x) (t .literal-accepted);
-      children = λ k h. child-after k (subst (λ (nd : Node). k < length (g .children (nd .production))) same-x h);
-      no-further = subst (λ (nd : Node). (k : ℕ) → length (g .children (nd .production)) ≤ k → k < 3 → child-field nd k ≡ none) (sym same-x) (t .no-further);
-      stands = stand (t .stands);
-      climbs = climbs;
-    }
+    production-exists = subst (λ (nd : Node). nd .production < g .productions) (sym same-x) (t .production-exists);
+    start = subst (λ (nd : Node). (x ≡ 0 → nd .production ≡ 0) × (nd .production ≡ 0 → x ≡ 0)) (sym same-x) (t .start);
+    literal-accepted = subst (λ (nd : Node). T (g .accepts (nd .production) (nd .literal))) (sym same-x) (t .literal-accepted);
+    children = λ k h. child-after k (subst (λ (nd : Node). k < length (g .children (nd .production))) same-x h);
+    no-further = subst (λ (nd : Node). (k : ℕ) → length (g .children (nd .production)) ≤ k → k < 3 → child-field nd k ≡ none) (sym same-x) (t .no-further);
+    stands = stand (t .stands);
+    climbs = climbs;
+  }
     where
       same-x : at ns′ x ≡ at ns x
       same-x = same x other
@@ -82,10 +82,10 @@ module _ (g : Grammar) (ns ns′ : List Node) (y : ℕ) (many : length ns′ ≡
   -- a root hole's node becomes free
   pub freed-forest : length ns ≤ 1000 → Forest g ns → (y ≡ 0 → ⊥) → at ns y .parent ≡ none → length (g .children (at ns y .production)) ≡ 0 → at ns′ y ≡ free-record → Forest g ns′
   freed-forest few forest other root childless freed = record {
-      root-used = used-after 0 (λ e. other (sym e)) (forest .root-used);
-      tended = λ x u. tend x (still x u) (used-before x (still x u) u);
-      blank = blank;
-    }
+    root-used = used-after 0 (λ e. other (sym e)) (forest .root-used);
+    tended = λ x u. tend x (still x u) (used-before x (still x u) u);
+    blank = blank;
+  }
     where
       still : (x : ℕ) → Used ns′ x → x ≡ y → ⊥
       still x u e = not-both (at ns′ x .used) (u .1) (subst (λ (i : ℕ). at ns′ i .used ≡ false) (sym e) (ap (λ (nd : Node). nd .used) freed))
@@ -127,13 +127,13 @@ module _ (g : Grammar) (ns ns′ : List Node) (y : ℕ) (many : length ns′ ≡
   -- a hole is put down at a free node, as a root
   pub fresh-forest : {text : ℕ → List Segment} → Limits g text → length ns ≤ 1000 → Forest g ns → (s : ℕ) → 0 < s → s < g .symbols → y < length ns → at ns y .used ≡ false → at ns′ y ≡ hole-record s none → Forest g ns′
   fresh-forest limits few forest s positive few-symbols inside free put = record {
-      root-used = used-after 0 (not-there free 0 (forest .root-used)) (forest .root-used);
-      tended = tended;
-      blank = λ x h e. elim (equal-or-not x y) [
-        | inl a ↦ absurd (not-both (at ns′ x .used) (subst (λ (i : ℕ). at ns′ i .used ≡ true) (sym (a .1)) (ap (λ (nd : Node). nd .used) put)) e)
-        | inr a ↦ subst Blank (sym (same x (a .1))) (forest .blank x (omega (arith, many)) (sym (ap (λ (nd : Node). nd .used) (same x (a .1))) ∙ e))
-      ];
-    }
+    root-used = used-after 0 (not-there free 0 (forest .root-used)) (forest .root-used);
+    tended = tended;
+    blank = λ x h e. elim (equal-or-not x y) [
+      | inl a ↦ absurd (not-both (at ns′ x .used) (subst (λ (i : ℕ). at ns′ i .used ≡ true) (sym (a .1)) (ap (λ (nd : Node). nd .used) put)) e)
+      | inr a ↦ subst Blank (sym (same x (a .1))) (forest .blank x (omega (arith, many)) (sym (ap (λ (nd : Node). nd .used) (same x (a .1))) ∙ e))
+    ];
+  }
     where
       old : (x : ℕ) → Used ns x → Tended g ns′ x
       old x u =
@@ -149,14 +149,14 @@ module _ (g : Grammar) (ns ns′ : List Node) (y : ℕ) (many : length ns′ ≡
 
       new : Tended g ns′ y
       new = record {
-          production-exists = subst (λ (nd : Node). nd .production < g .productions) (sym put) (limits .hole s positive few-symbols .0);
-          start = ((λ e. absurd (not-there free y (subst (λ (i : ℕ). Used ns i) (sym e) (forest .root-used)) refl)), (λ e. absurd (let z : s ≡ 0 = sym (ap (λ (nd : Node). nd .production) put) ∙ e in omega arith)));
-          literal-accepted = subst (λ (nd : Node). T (g .accepts (nd .production) (nd .literal))) (sym put) (limits .zero-alone s few-symbols .0);
-          children = λ k h. absurd (let h′ : k < length (g .children s) = subst (λ (nd : Node). k < length (g .children (nd .production))) put h in omega (arith, ap (λ (xs : List ℕ). length xs) (limits .hole s positive few-symbols .2)));
-          no-further = λ k h l. ap (λ (nd : Node). child-field nd k) put ∙ no-children k l;
-          stands = alone (ap (λ (nd : Node). nd .parent) put);
-          climbs = (y, ends used-y (ap (λ (nd : Node). nd .parent) put) refl);
-        }
+        production-exists = subst (λ (nd : Node). nd .production < g .productions) (sym put) (limits .hole s positive few-symbols .0);
+        start = ((λ e. absurd (not-there free y (subst (λ (i : ℕ). Used ns i) (sym e) (forest .root-used)) refl)), (λ e. absurd (let z : s ≡ 0 = sym (ap (λ (nd : Node). nd .production) put) ∙ e in omega arith)));
+        literal-accepted = subst (λ (nd : Node). T (g .accepts (nd .production) (nd .literal))) (sym put) (limits .zero-alone s few-symbols .0);
+        children = λ k h. absurd (let h′ : k < length (g .children s) = subst (λ (nd : Node). k < length (g .children (nd .production))) put h in omega (arith, ap (λ (xs : List ℕ). length xs) (limits .hole s positive few-symbols .2)));
+        no-further = λ k h l. ap (λ (nd : Node). child-field nd k) put ∙ no-children k l;
+        stands = alone (ap (λ (nd : Node). nd .parent) put);
+        climbs = (y, ends used-y (ap (λ (nd : Node). nd .parent) put) refl);
+      }
 
       tended : (x : ℕ) → Used ns′ x → Tended g ns′ x
       tended x u = elim (equal-or-not x y) [

@@ -114,8 +114,14 @@ module _ {R M : Type 0} (g : Grammar) (text : ℕ → List Segment) (limits : Li
         freed = freed;
         root-is = same r (λ f. no-root g ns few three forest r n at-root on other n on (sym f)) ∙ exchanged .root-is;
         link = record {
-          used = ap (λ (nd : Node). nd .used) e ∙ l .used; production = ap (λ (nd : Node). nd .production) e ∙ l .production; literal = ap (λ (nd : Node). nd .literal) e ∙ l .literal; parent = ap (λ (nd : Node). nd .parent) e ∙ l .parent;
-          place = l .place; inside = l .inside; named = l .named; children = ap (λ (nd : Node). nd .children) e ∙ l .children;
+          used = ap (λ (nd : Node). nd .used) e ∙ l .used;
+          production = ap (λ (nd : Node). nd .production) e ∙ l .production;
+          literal = ap (λ (nd : Node). nd .literal) e ∙ l .literal;
+          parent = ap (λ (nd : Node). nd .parent) e ∙ l .parent;
+          place = l .place;
+          inside = l .inside;
+          named = l .named;
+          children = ap (λ (nd : Node). nd .children) e ∙ l .children;
         };
         others = record { many = many ∙ exchanged .others .many; same = λ x out. same x (λ f. out (inl f)) ∙ exchanged .others .same x out };
       }
@@ -135,13 +141,14 @@ module _ {R M : Type 0} (g : Grammar) (text : ℕ → List Segment) (limits : Li
 
   pub paste-done : (ns′ : List Node) → ns′ ≡ set mid n free-record → values′ ≡ values → PasteWork g meaning nothing ns values ns′ values′ r n
   paste-done ns′ is unchanged = subst (λ (z : List Node). PasteWork g meaning nothing ns values z values′ r n) (sym is) (record {
-      records = pasted; same-values = unchanged;
-      sheet = forest-is-sheet g after after-forest roots;
-      trees = λ u rep. record {
-        sheet-tree = λ t rep′. sheet-tree g ns after sheet few three n q k r on refl q-on inside (child .named) kept link u t (clipping-tree g ns after sheet few three n q k r on refl q-on inside (child .named) kept r u at-root rep) rep′;
-        clippings = λ c t at-c c-other rep′. clipping-tree g ns after sheet few three n q k r on refl q-on inside (child .named) kept c t at-c rep′;
-      };
-    })
+    records = pasted;
+    same-values = unchanged;
+    sheet = forest-is-sheet g after after-forest roots;
+    trees = λ u rep. record {
+      sheet-tree = λ t rep′. sheet-tree g ns after sheet few three n q k r on refl q-on inside (child .named) kept link u t (clipping-tree g ns after sheet few three n q k r on refl q-on inside (child .named) kept r u at-root rep) rep′;
+      clippings = λ c t at-c c-other rep′. clipping-tree g ns after sheet few three n q k r on refl q-on inside (child .named) kept c t at-c rep′;
+    };
+  })
     where
       inside : k < 3
       inside = place-inside g ns few three forest r n at-root on other

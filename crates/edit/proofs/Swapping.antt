@@ -90,8 +90,8 @@ module _ (g : Grammar) (r n q k : ℕ) (ns ns′ : List Node) (few : length ns �
       record {
         used = subst (λ (i : ℕ). Used ns′ i) (sym (swapped .child-k)) (used-after r (ready .root-used));
         symbol =
-          ap (λ (i : ℕ). g .symbol (at ns′ i .production)) (swapped .child-k) ∙ child-symbol r ∙ ready .symbol
-          ∙ subst (λ (i : ℕ). g .symbol (at ns i .production) ≡ child g (at ns q .production) k) (ready .named) (c .symbol) ∙ sym (wanted-symbol q k);
+            ap (λ (i : ℕ). g .symbol (at ns′ i .production)) (swapped .child-k) ∙ child-symbol r ∙ ready .symbol
+            ∙ subst (λ (i : ℕ). g .symbol (at ns i .production) ≡ child g (at ns q .production) k) (ready .named) (c .symbol) ∙ sym (wanted-symbol q k);
         parent = ap (λ (i : ℕ). at ns′ i .parent) (swapped .child-k) ∙ swapped .parent-r;
       }
 
@@ -123,11 +123,11 @@ module _ (g : Grammar) (r n q k : ℕ) (ns ns′ : List Node) (few : length ns �
   -- the root is a child of the node's old parent
   hung-once : OneChildOf g ns′ q r
   hung-once = record {
-      place = k;
-      inside = subst (λ (p : ℕ). k < length (g .children p)) (sym (swapped .production q)) (ready .place);
-      named = swapped .child-k;
-      alone = λ j h e. only j (subst (λ (p : ℕ). j < length (g .children p)) (swapped .production q) h) e;
-    }
+    place = k;
+    inside = subst (λ (p : ℕ). k < length (g .children p)) (sym (swapped .production q)) (ready .place);
+    named = swapped .child-k;
+    alone = λ j h e. only j (subst (λ (p : ℕ). j < length (g .children p)) (swapped .production q) h) e;
+  }
     where
       only : (j : ℕ) → j < length (g .children (at ns q .production)) → child-field (at ns′ q) j ≡ r → j ≡ k
       only j h e = elim (equal-or-not j k) [
@@ -138,11 +138,11 @@ module _ (g : Grammar) (r n q k : ℕ) (ns ns′ : List Node) (few : length ns �
   -- any other node is the same child as before
   same-once : (p x : ℕ) → (x ≡ r → ⊥) → (x ≡ n → ⊥) → OneChildOf g ns p x → OneChildOf g ns′ p x
   same-once p x no-root no-node o = record {
-      place = o .place;
-      inside = subst (λ (i : ℕ). o .place < length (g .children i)) (sym (swapped .production p)) (o .inside);
-      named = swapped .child-other p (o .place) (λ e. no-node (sym (o .named) ∙ at-place e)) ∙ o .named;
-      alone = λ j h e. o .alone j (subst (λ (i : ℕ). j < length (g .children i)) (swapped .production p) h) (sym (swapped .child-other p j (λ d. no-root (sym e ∙ changed j d))) ∙ e);
-    }
+    place = o .place;
+    inside = subst (λ (i : ℕ). o .place < length (g .children i)) (sym (swapped .production p)) (o .inside);
+    named = swapped .child-other p (o .place) (λ e. no-node (sym (o .named) ∙ at-place e)) ∙ o .named;
+    alone = λ j h e. o .alone j (subst (λ (i : ℕ). j < length (g .children i)) (swapped .production p) h) (sym (swapped .child-other p j (λ d. no-root (sym e ∙ changed j d))) ∙ e);
+  }
     where
       at-place : (p ≡ q) × (o .place ≡ k) → child-field (at ns p) (o .place) ≡ n
       at-place e = subst (λ (i : ℕ). child-field (at ns i) (o .place) ≡ n) (sym (e .0)) (subst (λ (i : ℕ). child-field (at ns q) i ≡ n) (sym (e .1)) (ready .named))
@@ -187,21 +187,21 @@ module _ (g : Grammar) (r n q k : ℕ) (ns ns′ : List Node) (few : length ns �
 
   pub swapped-forest : Forest g ns′
   swapped-forest = record {
-      root-used = used-after 0 (forest .root-used);
-      tended = λ x u. tend x (used-before x u) (forest .tended x (used-before x u));
-      blank = λ x h e. free x (omega (arith, h, swapped .many)) (sym (swapped .used x) ∙ e);
-    }
+    root-used = used-after 0 (forest .root-used);
+    tended = λ x u. tend x (used-before x u) (forest .tended x (used-before x u));
+    blank = λ x h e. free x (omega (arith, h, swapped .many)) (sym (swapped .used x) ∙ e);
+  }
     where
       tend : (x : ℕ) → Used ns x → Tended g ns x → Tended g ns′ x
       tend x u t = record {
-          production-exists = subst (λ (p : ℕ). p < g .productions) (sym (swapped .production x)) (t .production-exists);
-          start = (λ e. swapped .production x ∙ t .start .0 e, λ e. t .start .1 (sym (swapped .production x) ∙ e));
-          literal-accepted = subst (λ (l : ℤ). T (g .accepts (at ns′ x .production) l)) (sym (swapped .literal x)) (subst (λ (p : ℕ). T (g .accepts p (at ns x .literal))) (sym (swapped .production x)) (t .literal-accepted));
-          children = children-after x u t;
-          no-further = no-further-after x t;
-          stands = stands-after x t;
-          climbs = climbs-on (t .climbs .0) (λ e. root-climbs) x (t .climbs .1);
-        }
+        production-exists = subst (λ (p : ℕ). p < g .productions) (sym (swapped .production x)) (t .production-exists);
+        start = (λ e. swapped .production x ∙ t .start .0 e, λ e. t .start .1 (sym (swapped .production x) ∙ e));
+        literal-accepted = subst (λ (l : ℤ). T (g .accepts (at ns′ x .production) l)) (sym (swapped .literal x)) (subst (λ (p : ℕ). T (g .accepts p (at ns x .literal))) (sym (swapped .production x)) (t .literal-accepted));
+        children = children-after x u t;
+        no-further = no-further-after x t;
+        stands = stands-after x t;
+        climbs = climbs-on (t .climbs .0) (λ e. root-climbs) x (t .climbs .1);
+      }
 
       not-used : (x : ℕ) → at ns x .used ≡ false → Used ns x → ⊥
       not-used x e u = let z : true ≡ false = sym (u .1) ∙ e in let y : _≡_ {A = ℕ} 0 1 = cc in omega arith
@@ -213,6 +213,9 @@ module _ (g : Grammar) (r n q k : ℕ) (ns ns′ : List Node) (few : length ns �
           let no-node : x ≡ n → ⊥ = λ f. not-used x e (subst (λ (i : ℕ). Used ns i) (sym f) n-used) in
           let no-parent : x ≡ q → ⊥ = λ f. not-used x e (subst (λ (i : ℕ). Used ns i) (sym f) (ready .parent-used)) in
           record {
-            free = swapped .used x ∙ e; production = swapped .production x ∙ b .production; literal = swapped .literal x ∙ b .literal; parent = swapped .parent-other x no-root no-node ∙ b .parent;
+            free = swapped .used x ∙ e;
+            production = swapped .production x ∙ b .production;
+            literal = swapped .literal x ∙ b .literal;
+            parent = swapped .parent-other x no-root no-node ∙ b .parent;
             children = λ j l. swapped .child-other x j (λ d. no-parent (d .0)) ∙ b .children j l;
           }

@@ -14,7 +14,13 @@ use table::is_clipping_root;
 use table::is_hole;
 
 // What every edit with a clipping checks first.
-fn check_with_clipping<L: Language>(language: &L, nodes: &[Node], values: usize, root: u16, n: u16) -> Result<(), EditFault>
+fn check_with_clipping<L: Language>(
+    language: &L,
+    nodes: &[Node],
+    values: usize,
+    root: u16,
+    n: u16,
+) -> Result<(), EditFault>
     ensures { λ r. ⌜ Answer (with-a-clipping (grammar (now (language .entry))) (now (nodes .entry)) values root n) r ⌝ }
 {
     begin(language, nodes, values)?;
@@ -26,7 +32,11 @@ fn check_with_clipping<L: Language>(language: &L, nodes: &[Node], values: usize,
 }
 
 // Refuses a node that is a hole or node 0.
-pub(crate) fn check_no_hole<L: Language>(language: &L, nodes: &[Node], n: u16) -> Result<(), EditFault>
+pub(crate) fn check_no_hole<L: Language>(
+    language: &L,
+    nodes: &[Node],
+    n: u16,
+) -> Result<(), EditFault>
     requires { ⌜ n < length (now nodes) ⌝ }
     ensures { λ r. ⌜ Answer (no-hole-at (grammar (now (language .entry))) (now (nodes .entry)) n ∷ []) r ⌝ }
 {
@@ -51,18 +61,31 @@ fn check_hole<L: Language>(language: &L, nodes: &[Node], n: u16) -> Result<(), E
 }
 
 // Refuses a clipping whose root is of another symbol than the node.
-fn check_symbol<L: Language>(language: &L, nodes: &[Node], root: u16, n: u16) -> Result<(), EditFault>
+fn check_symbol<L: Language>(
+    language: &L,
+    nodes: &[Node],
+    root: u16,
+    n: u16,
+) -> Result<(), EditFault>
     requires { ⌜ root < length (now nodes) ⌝ ∗ ⌜ n < length (now nodes) ⌝ }
     ensures { λ r. ⌜ Answer (same-symbol (grammar (now (language .entry))) (now (nodes .entry)) root n ∷ []) r ⌝ }
 {
-    if language.symbol(nodes[root as usize].production) != language.symbol(nodes[n as usize].production) {
+    if language.symbol(nodes[root as usize].production)
+        != language.symbol(nodes[n as usize].production)
+    {
         return Err(EditFault::WrongSymbol(n));
     }
     Ok(())
 }
 
 // What exchange checks.
-pub(crate) fn check_exchange<L: Language>(language: &L, nodes: &[Node], values: usize, root: u16, n: u16) -> Result<(), EditFault>
+pub(crate) fn check_exchange<L: Language>(
+    language: &L,
+    nodes: &[Node],
+    values: usize,
+    root: u16,
+    n: u16,
+) -> Result<(), EditFault>
     ensures { λ r. ⌜ Answer (exchange-checks (grammar (now (language .entry))) (now (nodes .entry)) values root n) r ⌝ }
 {
     check_with_clipping(language, nodes, values, root, n)?;
@@ -72,7 +95,13 @@ pub(crate) fn check_exchange<L: Language>(language: &L, nodes: &[Node], values: 
 }
 
 // What paste checks.
-pub(crate) fn check_paste<L: Language>(language: &L, nodes: &[Node], values: usize, root: u16, n: u16) -> Result<(), EditFault>
+pub(crate) fn check_paste<L: Language>(
+    language: &L,
+    nodes: &[Node],
+    values: usize,
+    root: u16,
+    n: u16,
+) -> Result<(), EditFault>
     ensures { λ r. ⌜ Answer (paste-checks (grammar (now (language .entry))) (now (nodes .entry)) values root n) r ⌝ }
 {
     check_with_clipping(language, nodes, values, root, n)?;

@@ -17,7 +17,12 @@ use grammar::Language;
 use table::Node;
 
 // What cut checks; it answers the number for the new hole.
-fn check_cut<L: Language>(language: &L, nodes: &[Node], values: usize, n: u16) -> Result<u16, EditFault>
+fn check_cut<L: Language>(
+    language: &L,
+    nodes: &[Node],
+    values: usize,
+    n: u16,
+) -> Result<u16, EditFault>
     ensures { λ r. ⌜ Cases r (λ hole. Met (cut-checks (grammar (now (language .entry))) (now (nodes .entry)) values n) × NextFree (now (nodes .entry)) (length (now (nodes .entry))) hole) (First (cut-checks (grammar (now (language .entry))) (now (nodes .entry)) values n)) ⌝ }
 {
     check_at_node(language, nodes, values, n)?;
@@ -29,7 +34,12 @@ fn check_cut<L: Language>(language: &L, nodes: &[Node], values: usize, n: u16) -
 }
 
 // Cuts the subtree at a node out; answers the number of the hole in its place.
-pub fn cut<L: Language>(language: &L, nodes: &mut [Node], values: &mut [L::Row], node: u16) -> Result<u16, EditFault>
+pub fn cut<L: Language>(
+    language: &L,
+    nodes: &mut [Node],
+    values: &mut [L::Row],
+    node: u16,
+) -> Result<u16, EditFault>
     ensures { λ r. ⌜ CutCall (grammar (now (language .entry))) (λ row. Value·Figure .means (Value·Figure .reads row)) (Value·Figure .nothing) (now (nodes .entry)) (now (values .entry)) (now (nodes .exit)) (now (values .exit)) node r ⌝ }
 {
     let hole = check_cut(language, nodes, values.len(), node)?;

@@ -7,7 +7,13 @@ use grammar::Figure;
 use grammar::Language;
 use table::Node;
 
-pub fn exchange<L: Language>(language: &L, nodes: &mut [Node], values: &mut [L::Row], root: u16, node: u16) -> Result<(), EditFault>
+pub fn exchange<L: Language>(
+    language: &L,
+    nodes: &mut [Node],
+    values: &mut [L::Row],
+    root: u16,
+    node: u16,
+) -> Result<(), EditFault>
     ensures { λ r. ⌜ ExchangeCall (grammar (now (language .entry))) (λ row. Value·Figure .means (Value·Figure .reads row)) (Value·Figure .nothing) (now (nodes .entry)) (now (values .entry)) (now (nodes .exit)) (now (values .exit)) root node r ⌝ }
 {
     check_exchange(language, nodes, values.len(), root, node)?;

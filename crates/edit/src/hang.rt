@@ -48,7 +48,13 @@ pub(crate) fn free_node(nodes: &mut [Node], n: u16)
     requires { ⌜ n < length (now nodes) ⌝ }
     ensures { λ _. ⌜ now (nodes .exit) ≡ set (now (nodes .entry)) n free-record ⌝ }
 {
-    nodes[n as usize] = Node { used: false, production: 0, literal: 0, parent: NONE, children: [NONE, NONE, NONE] };
+    nodes[n as usize] = Node {
+        used: false,
+        production: 0,
+        literal: 0,
+        parent: NONE,
+        children: [NONE, NONE, NONE],
+    };
 }
 
 // Puts a hole down as a root.
@@ -56,5 +62,11 @@ pub(crate) fn put_hole(nodes: &mut [Node], n: u16, symbol: u8)
     requires { ⌜ n < length (now nodes) ⌝ }
     ensures { λ _. ⌜ now (nodes .exit) ≡ set (now (nodes .entry)) n (hole-record symbol none) ⌝ }
 {
-    nodes[n as usize] = Node { used: true, production: symbol, literal: 0, parent: NONE, children: [NONE, NONE, NONE] };
+    nodes[n as usize] = Node {
+        used: true,
+        production: symbol,
+        literal: 0,
+        parent: NONE,
+        children: [NONE, NONE, NONE],
+    };
 }

@@ -31,9 +31,11 @@ hang-requires g c κs =
 
 pub returns : need.returns
 returns g c =
-    let m = c .in-Continue-hole .ensures tt in
-    (m .0, cut-done (g .L·Language .grammar (c .args .language .now)) (g .L·Language .text (c .args .language .now)) (g .L·Language .limits (c .args .language .now)) (c .args .nodes .now) (c .args .node) (c .in-Continue-hole .hole) (m .0 .1 .0 .few) (m .0 .1 .1 .0) (m .0 .1 .1 .1 .0) (m .0 .1 .1 .1 .1 .0) (m .1)
-    (λ row. g .Value·Figure .means (g .Value·Figure .reads row)) (g .Value·Figure .nothing) (c .hang .last .nodes) (c .args .values .now) (c .blank-node .last .values)
-    (subst (λ (z : List Node). Exchanged (c .in-Continue-hole .hole) (c .args .node) z (c .hang .last .nodes))
-    (placed (c .args .nodes .now) (c .put-hole .last .nodes) (c .in-Continue-hole .hole) ((g .L·Language .grammar (c .args .language .now)) .symbol (at (c .args .nodes .now) (c .args .node) .production)) (c .symbol-symbol .result) (c .put-hole .ensures) (c .symbol-symbol .ensures)) (c .hang .ensures))
-    (c .blank-node .ensures))
+    let m = c .in-Continue-hole .ensures tt in (
+      m .0,
+      cut-done (g .L·Language .grammar (c .args .language .now)) (g .L·Language .text (c .args .language .now)) (g .L·Language .limits (c .args .language .now)) (c .args .nodes .now) (c .args .node) (c .in-Continue-hole .hole) (m .0 .1 .0 .few) (m .0 .1 .1 .0) (m .0 .1 .1 .1 .0) (m .0 .1 .1 .1 .1 .0) (m .1)
+          (λ row. g .Value·Figure .means (g .Value·Figure .reads row)) (g .Value·Figure .nothing) (c .hang .last .nodes) (c .args .values .now) (c .blank-node .last .values)
+          (subst (λ (z : List Node). Exchanged (c .in-Continue-hole .hole) (c .args .node) z (c .hang .last .nodes))
+          (placed (c .args .nodes .now) (c .put-hole .last .nodes) (c .in-Continue-hole .hole) ((g .L·Language .grammar (c .args .language .now)) .symbol (at (c .args .nodes .now) (c .args .node) .production)) (c .symbol-symbol .result) (c .put-hole .ensures) (c .symbol-symbol .ensures)) (c .hang .ensures))
+          (c .blank-node .ensures),
+    )

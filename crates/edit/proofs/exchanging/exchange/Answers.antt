@@ -10,7 +10,7 @@ use Rattle.edit.proofs.Editing.{refused}
 use Rattle.edit.proofs.exchanging.exchange.Needs as need
 
 pub returns-in-Break-check-exchange : need.returns-in-Break-check-exchange
-returns-in-Break-check-exchange g c = 
+returns-in-Break-check-exchange g c =
     refused (g .L·Language .grammar (c .args .language .now)) (λ row. g .Value·Figure .means (g .Value·Figure .reads row)) (g .Value·Figure .nothing) (c .args .nodes .now) (c .args .values .now)
     (exchange-checks (g .L·Language .grammar (c .args .language .now)) (c .args .nodes .now) (length (c .args .values .now)) (c .args .root) (c .args .node))
     (λ a. ExchangeWork (g .L·Language .grammar (c .args .language .now)) (λ row. g .Value·Figure .means (g .Value·Figure .reads row)) (g .Value·Figure .nothing) (c .args .nodes .now) (c .args .values .now) (c .args .nodes .now) (c .args .values .now) (c .args .root) (c .args .node))
@@ -24,6 +24,8 @@ hang-requires g c κs =
 
 pub returns : need.returns
 returns g c =
-    let m = c .in-Continue-check-exchange .ensures tt in
-    (m, exchange-done (g .L·Language .grammar (c .args .language .now)) _ _ (at-most-three (g .L·Language .grammar (c .args .language .now)) (g .L·Language .text (c .args .language .now)) (g .L·Language .limits (c .args .language .now))) (c .args .nodes .now) _ _ _ (c .args .root) (c .args .node)
-    (m .1 .0 .few) (m .1 .1 .0) (m .1 .1 .1 .0) (m .1 .1 .1 .1 .0) (m .1 .1 .1 .1 .1 .0) (m .1 .1 .1 .1 .1 .1 .0) (c .hang .ensures) refl)
+    let m = c .in-Continue-check-exchange .ensures tt in (
+      m,
+      exchange-done (g .L·Language .grammar (c .args .language .now)) _ _ (at-most-three (g .L·Language .grammar (c .args .language .now)) (g .L·Language .text (c .args .language .now)) (g .L·Language .limits (c .args .language .now))) (c .args .nodes .now) _ _ _ (c .args .root) (c .args .node)
+          (m .1 .0 .few) (m .1 .1 .0) (m .1 .1 .1 .0) (m .1 .1 .1 .1 .0) (m .1 .1 .1 .1 .1 .0) (m .1 .1 .1 .1 .1 .1 .0) (c .hang .ensures) refl,
+    )

@@ -32,6 +32,8 @@ free-node-requires g c κs =
 
 pub returns : need.returns
 returns g c =
-    let m = c .in-Continue-check-paste .ensures tt in
-    (m, paste-done (g .L·Language .grammar (c .args .language .now)) (g .L·Language .text (c .args .language .now)) (g .L·Language .limits (c .args .language .now)) (λ row. g .Value·Figure .means (g .Value·Figure .reads row)) (g .Value·Figure .nothing) (c .args .nodes .now) (c .hang .last .nodes) (c .args .values .now) (c .args .values .now)
-    (c .args .root) (c .args .node) (m .1 .0 .few) (m .1 .1 .0) (m .1 .1 .1 .0) (m .1 .1 .1 .1 .0) (m .1 .1 .1 .1 .1 .0) (m .1 .1 .1 .1 .1 .1 .0) (c .hang .ensures) (c .free-node .last .nodes) (c .free-node .ensures) refl)
+    let m = c .in-Continue-check-paste .ensures tt in (
+      m,
+      paste-done (g .L·Language .grammar (c .args .language .now)) (g .L·Language .text (c .args .language .now)) (g .L·Language .limits (c .args .language .now)) (λ row. g .Value·Figure .means (g .Value·Figure .reads row)) (g .Value·Figure .nothing) (c .args .nodes .now) (c .hang .last .nodes) (c .args .values .now) (c .args .values .now)
+          (c .args .root) (c .args .node) (m .1 .0 .few) (m .1 .1 .0) (m .1 .1 .1 .0) (m .1 .1 .1 .1 .0) (m .1 .1 .1 .1 .1 .0) (m .1 .1 .1 .1 .1 .1 .0) (c .hang .ensures) (c .free-node .last .nodes) (c .free-node .ensures) refl,
+    )
