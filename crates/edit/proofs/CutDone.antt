@@ -20,8 +20,9 @@ use Rattle.table.proofs.Members.{AtMostThree, at-most-three}
 use Rattle.table.proofs.Frame.{Kept}
 use Rattle.table.proofs.Relinking.{LinkChanged}
 use Rattle.edit.specs.Memory.{Blanked}
-use Rattle.edit.specs.Fresh.{hole-record, with-parent, new-nodes, NextFree}
-use Rattle.edit.specs.Edits.{Exchanged, CutOut, Hangable, Relinked}
+use Rattle.edit.specs.Fresh.{hole-record, with-parent, NextFree}
+use Rattle.edit.specs.Edits.{Exchanged, CutOut, Relinked}
+use Rattle.edit.specs.Hanging.{Hangable}
 use Rattle.edit.specs.Calls.{CutWork, hole-tree}
 use Rattle.edit.proofs.Forest.{Forest, NoHoleRoots, sheet-is-forest, roots-of-sheet, forest-is-sheet}
 use Rattle.edit.proofs.Swapping.{Ready, Swapped, swapped-forest}

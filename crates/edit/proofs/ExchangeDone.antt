@@ -1,12 +1,12 @@
 -- A clipping's root hung in the place of a node on the sheet is what exchange is to do.
-use mathlib.Core.Path.{_≡_, refl, sym, subst, _∙_, ap}
+use mathlib.Core.Path.{_≡_, refl, sym, _∙_}
 use mathlib.Core.List.{List}
 use Prim.Native.Nat.{ℕ, _≤_, _<_}
 use native.Mathlib.Omega.{arith}
 use lib.ListN.{length}
 use Rattle.grammar.specs.Grammar.{Grammar}
 use Rattle.table.specs.declared.node.Node.{Node}
-use Rattle.table.specs.Nodes.{none, at, child-field, Used}
+use Rattle.table.specs.Nodes.{at, Used}
 use Rattle.table.specs.Climbing.{Climb}
 use Rattle.table.specs.Sheets.{Sheet, ClippingRoot, OneChildOf, Hole}
 use Rattle.table.proofs.Climbs.{climb-used}

@@ -1,16 +1,16 @@
 -- The step that cut, paste and exchange share, as the code does it: three records are written, one after the other.
-use mathlib.Core.Path.{_≡_, refl, sym, _∙_, ap}
-use mathlib.Core.List.{List, [], _∷_}
+use mathlib.Core.Path.{_≡_, sym, _∙_, ap}
+use mathlib.Core.List.{List}
 use mathlib.Core.Logic.{_≢_, inl, inr}
 use Prim.Native.Nat.{ℕ, _<_}
 use native.Mathlib.Omega.{arith}
-use lib.ListN.{length, getD, set, length-set}
+use lib.ListN.{length, set, length-set}
 use lib.Seq.{getD-set-same, getD-set-other}
 use Rattle.table.specs.declared.node.Node.{Node}
 use Rattle.table.specs.Nodes.{none, nowhere, at, child-field}
-use Rattle.table.specs.Represents.{In}
 use Rattle.edit.specs.Fresh.{with-parent}
-use Rattle.edit.specs.Edits.{Exchanged, Hangable}
+use Rattle.edit.specs.Edits.{Exchanged}
+use Rattle.edit.specs.Hanging.{Hangable}
 
 -- a record with another child at a place
 abbrev pub with-child : Node → ℕ → ℕ → Node

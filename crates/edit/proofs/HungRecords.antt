@@ -1,30 +1,27 @@
 -- A clipping's root can be hung in the place of a node on the sheet, and what that makes of each record.
 use mathlib.Core.Path.{_≡_, refl, sym, subst, _∙_, ap}
-use mathlib.Core.List.{List, [], _∷_}
-use mathlib.Core.Logic.{_⊎_, inl, inr}
+use mathlib.Core.List.{List}
+use mathlib.Core.Logic.{inl, inr}
 use Prim.Native.Nat.{ℕ, _≤_, _<_}
 use native.Mathlib.Omega.{arith}
 use lib.ListN.{length, getD, set}
 use lib.Seq.{getD-set-same, getD-set-other}
 use Rattle.grammar.specs.Grammar.{Grammar}
 use Rattle.table.specs.declared.node.Node.{Node}
-use Rattle.table.specs.Nodes.{none, at, child-field, Used}
+use Rattle.table.specs.Nodes.{at, child-field}
 use Rattle.table.specs.Climbing.{Climb, ends, goes-on}
 use Rattle.table.specs.Sheets.{ClippingRoot, OneChildOf}
-use Rattle.table.specs.Represents.{In}
 use Rattle.table.proofs.Climbs.{climb-used, climb-unique}
 use Rattle.table.proofs.Reading.{never-none, below-or-not, past-the-end}
 use Rattle.table.proofs.Replaced.{equal-or-not}
 use Rattle.table.proofs.Under.{itself, depth-of, none-both-ways}
 use Rattle.table.proofs.Members.{AtMostThree}
-use Rattle.edit.specs.Edits.{Exchanged, Hangable}
+use Rattle.edit.specs.Edits.{Exchanged}
+use Rattle.edit.specs.Hanging.{Hangable}
 use Rattle.edit.proofs.Forest.{Forest, Stands, alone, hanging}
 use Rattle.edit.proofs.Swapping.{Ready, Swapped}
 
 module _ (g : Grammar) (ns : List Node) (few : length ns ≤ 1000) (three : AtMostThree g) (forest : Forest g ns) (r n : ℕ) (at-root : ClippingRoot ns r) (on : Climb ns 0 n) (other : n ≡ 0 → ⊥) where
-  q : ℕ
-  q = at ns n .parent
-
   -- the node's parent is on the sheet too
   pub parent-on : Climb ns 0 (at ns n .parent)
   parent-on = go on

@@ -1,5 +1,5 @@
 -- The trees after a root was hung in the place of a node on the sheet: the tree under node 0 has the root's tree there, every clipping keeps its tree.
-use mathlib.Core.Path.{_≡_, refl, sym, subst, _∙_, ap}
+use mathlib.Core.Path.{_≡_, sym, subst, _∙_}
 use mathlib.Core.List.{List}
 use mathlib.Core.Logic.{inl, inr}
 use Prim.Native.Nat.{ℕ, _≤_, _<_}
@@ -8,7 +8,7 @@ use lib.ListN.{length}
 use Rattle.grammar.specs.Grammar.{Grammar}
 use Rattle.grammar.specs.Tree.{Tree}
 use Rattle.table.specs.declared.node.Node.{Node}
-use Rattle.table.specs.Nodes.{none, at, child-field, Used}
+use Rattle.table.specs.Nodes.{at, child-field, Used}
 use Rattle.table.specs.Climbing.{Climb}
 use Rattle.table.specs.Sheets.{Sheet, ClippingRoot}
 use Rattle.table.specs.Represents.{Represents, numbers, In, replace}

@@ -2,11 +2,10 @@
 use mathlib.Core.Path.{_≡_, refl, sym, subst, _∙_, ap}
 use mathlib.Core.Bool.{Bool, true, false}
 use mathlib.Core.List.{List, [], _∷_}
-use mathlib.Core.Logic.{_⊎_, inl, inr}
+use mathlib.Core.Logic.{inl, inr}
 use Prim.Native.Nat.{ℕ, zero, suc, _≤_, _<_}
 use native.Mathlib.Omega.{arith}
 use lib.Dec.{T}
-use lib.IntN.{ℤ, pos}
 use lib.ListN.{length, getD}
 use Rattle.grammar.specs.Grammar.{Grammar, child}
 use Rattle.grammar.specs.Text.{Segment}
@@ -14,7 +13,7 @@ use Rattle.grammar.specs.Limits.{Limits}
 use Rattle.table.specs.declared.node.Node.{Node}
 use Rattle.table.specs.Nodes.{none, at, child-field, Used, Blank}
 use Rattle.table.specs.Climbing.{Climb, ends, goes-on}
-use Rattle.table.specs.Sheets.{ChildAt, OneChildOf, Hole}
+use Rattle.table.specs.Sheets.{ChildAt, OneChildOf}
 use Rattle.table.proofs.Climbs.{climb-used}
 use Rattle.table.proofs.Reading.{never-none}
 use Rattle.table.proofs.Replaced.{equal-or-not}

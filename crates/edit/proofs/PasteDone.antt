@@ -1,7 +1,7 @@
 -- A clipping's root hung in the place of a hole on the sheet, and the hole's node made free, is what paste is to do.
 use mathlib.Core.Path.{_≡_, refl, sym, subst, _∙_, ap}
 use mathlib.Core.Bool.{true, false}
-use mathlib.Core.List.{List, [], _∷_}
+use mathlib.Core.List.{List}
 use mathlib.Core.Logic.{inl}
 use Prim.Native.Nat.{ℕ, _≤_, _<_}
 use native.Mathlib.Omega.{arith}
@@ -11,7 +11,7 @@ use Rattle.grammar.specs.Grammar.{Grammar}
 use Rattle.grammar.specs.Text.{Segment}
 use Rattle.grammar.specs.Limits.{Limits}
 use Rattle.table.specs.declared.node.Node.{Node}
-use Rattle.table.specs.Nodes.{none, nowhere, at, child-field, Used}
+use Rattle.table.specs.Nodes.{nowhere, at, child-field, Used}
 use Rattle.table.specs.Climbing.{Climb}
 use Rattle.table.specs.Sheets.{Sheet, ClippingRoot, OneChildOf, Hole}
 use Rattle.table.proofs.Climbs.{climb-used}

@@ -1,19 +1,19 @@
 -- A root hung in a node's place leaves a forest: the node is a root then, and the root is a child of the node's old parent.
 use mathlib.Core.Path.{_≡_, refl, sym, subst, _∙_, ap}
-use mathlib.Core.Bool.{Bool, true, false}
-use mathlib.Core.List.{List, [], _∷_}
+use mathlib.Core.Bool.{true, false}
+use mathlib.Core.List.{List}
 use mathlib.Core.Logic.{_⊎_, inl, inr}
 use Prim.Native.Nat.{ℕ, _≤_, _<_}
 use native.Mathlib.Omega.{arith}
 use lib.Dec.{T}
 use lib.IntN.{ℤ}
-use lib.ListN.{length, getD, set}
+use lib.ListN.{length}
 use Rattle.grammar.specs.Grammar.{Grammar, child}
 use Rattle.table.specs.declared.node.Node.{Node}
 use Rattle.table.specs.Nodes.{none, at, child-field, Used, Blank}
 use Rattle.table.specs.Climbing.{Climb, ends, goes-on}
 use Rattle.table.specs.Sheets.{ChildAt, OneChildOf}
-use Rattle.table.proofs.Reading.{never-none, below-or-not}
+use Rattle.table.proofs.Reading.{never-none}
 use Rattle.table.proofs.Replaced.{equal-or-not}
 use Rattle.table.proofs.Climbs.{climb-used}
 use Rattle.edit.proofs.Forest.{Forest, Tended, Stands, alone, hanging}

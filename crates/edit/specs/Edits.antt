@@ -40,18 +40,6 @@ pub record Relinked (m from to : ℕ) (before after : List Node) : Type 0 where
   pub named : child-field (at before m) place ≡ from
   pub children : at after m .children ≡ set (at before m .children) place to
 
--- Node n hangs from its parent, and the root of another tree can be hung in its place: the three nodes are apart and in the table.
-pub record Hangable (ns : List Node) (root n : ℕ) : Type 0 where
-  pub root-inside : root < length ns
-  pub node-inside : n < length ns
-  pub parent-inside : at ns n .parent < length ns
-  pub root-apart : root ≡ n → ⊥
-  pub parent-apart : at ns n .parent ≡ n → ⊥
-  pub parent-no-root : at ns n .parent ≡ root → ⊥
-  pub place : ℕ
-  pub place-inside : place < 3
-  pub named : child-field (at ns (at ns n .parent)) place ≡ n
-
 -- Cut puts a new hole in a node's place and hands the node out as a clipping's root.
 pub record CutOut (g : Grammar) (node : ℕ) (before after : List Node) (hole : ℕ) : Type 0 where
   pub hole-number : hole ∷ [] ≡ new-nodes before 1

@@ -2,6 +2,7 @@ pub mod Memory
 pub mod Fresh
 pub mod Planting
 pub mod Edits
+pub mod Hanging
 pub mod Gathering
 pub mod Starting
 pub mod Faults

@@ -1,5 +1,4 @@
 // Cut: a new hole in a node's place; the node is the root of a clipping then.
-ghost use Prim.Native.Nat.{_<_};
 ghost use lib.ListN.{length};
 ghost use Rattle.std.specs.Results.{Cases};
 ghost use Rattle.table.specs.Refusals.{Met, First};

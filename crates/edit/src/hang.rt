@@ -3,8 +3,10 @@ ghost use mathlib.Core.Path.{_≡_};
 ghost use Prim.Native.Nat.{ℕ, _<_};
 ghost use lib.ListN.{length, set};
 ghost use Rattle.table.specs.Nodes.{none, child-field};
-ghost use Rattle.edit.specs.Edits.{Exchanged, Hangable};
+ghost use Rattle.edit.specs.Edits.{Exchanged};
 ghost use Rattle.edit.specs.Fresh.{free-record, hole-record};
+ghost use Rattle.edit.specs.Hanging.{Hangable};
+use crate::records;
 use table::NONE;
 use table::Node;
 
@@ -47,13 +49,7 @@ pub(crate) fn free_node(nodes: &mut [Node], n: u16)
     requires { ⌜ n < length (now nodes) ⌝ }
     ensures { λ _. ⌜ now (nodes .exit) ≡ set (now (nodes .entry)) n free-record ⌝ }
 {
-    nodes[n as usize] = Node {
-        used: false,
-        production: 0,
-        literal: 0,
-        parent: NONE,
-        children: [NONE, NONE, NONE],
-    };
+    nodes[n as usize] = records::free_node();
 }
 
 // Puts a hole down as a root.
@@ -61,11 +57,5 @@ pub(crate) fn put_hole(nodes: &mut [Node], n: u16, symbol: u8)
     requires { ⌜ n < length (now nodes) ⌝ }
     ensures { λ _. ⌜ now (nodes .exit) ≡ set (now (nodes .entry)) n (hole-record symbol none) ⌝ }
 {
-    nodes[n as usize] = Node {
-        used: true,
-        production: symbol,
-        literal: 0,
-        parent: NONE,
-        children: [NONE, NONE, NONE],
-    };
+    nodes[n as usize] = records::hole_node(symbol, NONE);
 }

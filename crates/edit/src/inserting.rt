@@ -9,6 +9,7 @@ ghost use Rattle.edit.specs.Planting.{Apart, Planted, Roomy};
 ghost use Rattle.edit.specs.Calls.{InsertCall};
 use crate::checks::check_insert;
 use crate::fault::EditFault;
+use crate::records::hole_node;
 use crate::rows::blank_node;
 use grammar::Language;
 use table::NONE;
@@ -32,13 +33,7 @@ fn put_hole(nodes: &mut [Node], n: u16, symbol: u8, parent: u16)
     requires { ⌜ n < length (now nodes) ⌝ }
     ensures { λ _. ⌜ now (nodes .exit) ≡ set (now (nodes .entry)) n (hole-record symbol parent) ⌝ }
 {
-    nodes[n as usize] = Node {
-        used: true,
-        production: symbol,
-        literal: 0,
-        parent,
-        children: [NONE, NONE, NONE],
-    };
+    nodes[n as usize] = hole_node(symbol, parent);
 }
 
 // Puts holes of some symbols down under a parent.

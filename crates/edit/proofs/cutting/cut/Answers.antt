@@ -5,7 +5,8 @@ use Rattle.table.specs.declared.node.Node.{Node}
 use Rattle.table.specs.Nodes.{at}
 use Rattle.table.proofs.Climbs.{climb-used}
 use Rattle.edit.specs.Checks.{cut-checks}
-use Rattle.edit.specs.Edits.{Exchanged, Hangable}
+use Rattle.edit.specs.Edits.{Exchanged}
+use Rattle.edit.specs.Hanging.{Hangable}
 use Rattle.edit.specs.Calls.{CutWork}
 use Rattle.edit.proofs.CutDone.{placed, hole-hangable, cut-done}
 use Rattle.edit.proofs.Editing.{refused}
