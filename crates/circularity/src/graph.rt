@@ -1,7 +1,7 @@
 // One production's local graph: the attributes at its places, with an edge from each to those that it waits on directly,
 // or, at a child, by the relation that is chosen for the child's tree. There are at most 16 vertices, so a row of edges is a 16-bit number.
-ghost use Rattle.std.specs.Prelude.{◌≡◌, ◌+◌, ◌*◌, ◌/◌, ◌%◌, ◌<◌, ◌≤◌, true, false, length, bit_or};
-ghost use Rattle.grammar.specs.Grammar.{arguments};
+ghost use Rattle.std.specs.Prelude.{◌≡◌, ℕ, ◌+◌, ◌*◌, ◌/◌, ◌%◌, ◌^◌, ◌<◌, ◌≤◌, true, false, length, bit_or};
+ghost use Rattle.grammar.specs.Grammar.{Grammar, arguments};
 ghost use Rattle.circularity.specs.Bits.{has as has_bit, through as taken_through, closed_below, field};
 ghost use Rattle.circularity.specs.Working.{vertex as vertex_of, bits_of, chosen, parent_row, child_row, rows_of, cyclic_below, relation_in, outcome_of};
 

@@ -1,4 +1,7 @@
 // Knuth's test of circularity, for every language behind the interface.
+#![tactic(auto)]
+
+ghost use Rattle.std.specs.Prelude.{ℕ};
 ghost use Rattle.circularity.specs.Verdict.{Verdict, VerdictLaws};
 
 pub mod fault;

@@ -1,6 +1,6 @@
 // The relations that each symbol's trees have, found by combining every production with every choice of the relations that its
 // children's trees were found to have, until nothing new is found. A symbol's set of relations is a 16-bit mask.
-ghost use Rattle.std.specs.Prelude.{◌≡◌, ◌+◌, ◌<◌, length, sum};
+ghost use Rattle.std.specs.Prelude.{◌≡◌, ℕ, ◌+◌, ◌<◌, ◌≤◌, length, sum};
 ghost use Rattle.circularity.specs.Working.{joined, choice, choices_at, gathered, outcome_of, found_by, grown, Saturated, counted};
 
 use crate::graph::{Choice, Outcome, has, work_out};

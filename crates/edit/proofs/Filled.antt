@@ -145,7 +145,7 @@ module _ (g : Grammar) (text : ℕ → List Segment) (limits : Limits g text) (b
   }
 
   pub sheet_filled : Sheet g after
-  sheet_filled = sheet_after g before after n sheet here changed few
+  sheet_filled = sheet_after g before after n sheet here changed
 
   hole_grown : (k : ℕ) → k < 3 → Represents after (child_field (at after n) k) (hole_at_place g p new k)
   hole_grown k less = elim (below_or_not k (length (g.children p))) [

@@ -4,6 +4,7 @@ use Rattle.std.proofs.lemmas.List.{get_or-set_same, get_or-set_other, get_or_def
 use Rattle.grammar.specs.Grammar.{Grammar, child}
 use Rattle.grammar.specs.Limits.{Limits}
 use Rattle.grammar.specs.Text.{Segment}
+use Rattle.grammar.specs.Tree.{node}
 use Rattle.grammar.specs.Tree
 use Rattle.table.specs.declared.node.Node.{Node}
 use Rattle.table.specs.Nodes.{none, nowhere, at, Used}
@@ -14,11 +15,11 @@ use Rattle.table.specs.Represents.{In}
 use Rattle.table.proofs.Under.{climb_used}
 use Rattle.edit.specs.Memory.{Blanked}
 use Rattle.edit.specs.Fresh.{new_nodes, hole_record, three, with_production, NewNodes}
-use Rattle.edit.specs.Planting.{Planted, Apart}
+use Rattle.edit.specs.Planting.{Planted, Apart, Roomy}
 use Rattle.edit.specs.Checks.{Fitting, insert_checks}
 use Rattle.edit.specs.Edits.{Inserted}
 use Rattle.edit.specs.Calls.{InsertWork}
-use Rattle.edit.proofs.NewNodes.{new_length, in_at, field_is, new_place, new_free, new_inside, new_alone, new_apart, taken_fields}
+use Rattle.edit.proofs.NewNodes.{new_length, in_at, field_is, new_place, new_free, new_inside, new_alone, new_apart, taken_fields, new_roomy}
 use Rattle.edit.proofs.Regrowing.{never_both}
 use Rattle.edit.proofs.Filled.{FilledIn, sheet_filled, trees_filled}
 
@@ -98,6 +99,9 @@ module _ (g : Grammar) (text : ℕ → List Segment) (limits : Limits g text) (b
 
   pub fields_apart : (mid : List Node) → length mid ≡ length before → Apart (length mid) (length cs) fields
   fields_apart mid e = rw (e, cs_are) (new_apart before (length (g.children p)) fields few_fields found.1)
+
+  pub fields_roomy : Roomy room (length cs) fields
+  fields_roomy = rw cs_are (new_roomy before (length (g.children p)) fields few_fields found.1 room met.1.0.room)
 
   pub insert_done : {R M : Type 0} (meaning : R → M) (nothing : M) (mid after : List Node) (values values' : List R) → mid ≡ set before n (with_production (at before n) p l' fields) → Planted cs n fields (length cs) mid after → Blanked meaning nothing (take (length cs) fields) values values'
       → Met (insert_checks g before room n p l) × InsertWork g meaning nothing before values after values' n p l

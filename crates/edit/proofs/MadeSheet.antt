@@ -1,5 +1,5 @@
 -- The table that make leaves is a sheet, with production 0 over holes under node 0 and nothing else.
-use Rattle.std.proofs.Common.{◌≡◌, ℕ, zero, suc, ◌+◌, ◌-◌, ◌*◌, ◌<◌, ◌≤◌, Bool, true, false, List, [], ◌∷◌, length, get_or, take, pos, sym, refl, ap, ◌∙◌, subst, inl, inr, arith}
+use Rattle.std.proofs.Common.{◌≡◌, ℕ, zero, suc, ◌+◌, ◌-◌, ◌*◌, ◌<◌, ◌≤◌, Bool, true, false, ◌⊎◌, List, [], ◌∷◌, length, get_or, take, pos, sym, refl, ap, ◌∙◌, subst, inl, inr, arith}
 use Rattle.grammar.specs.Grammar.{Grammar, child}
 use Rattle.grammar.specs.Limits.{Limits}
 use Rattle.grammar.specs.Text.{Segment}
@@ -7,16 +7,15 @@ use Rattle.grammar.specs.Tree.{Tree, node}
 use Rattle.grammar.specs.Tree
 use Rattle.table.specs.declared.node.Node.{Node}
 use Rattle.table.specs.Nodes.{none, at, child_field, Used, Blank}
-use Rattle.table.specs.Climbing.{ends, goes_on}
-use Rattle.table.specs.Sheets.{Sheet, Good, InOrder, ChildAt, OneChildOf, root, below}
+use Rattle.table.specs.Climbing.{Climb, ends, goes_on}
+use Rattle.table.specs.Sheets.{Sheet, Good, InOrder, ChildAt, OneChildOf, Hangs, root, below}
 use Rattle.table.specs.Represents.{Represents}
-use Rattle.table.proofs.Reading.{below_or_not}
-use Rattle.edit.specs.Fresh.{free_below, new_nodes, hole_record}
+use Rattle.table.proofs.Reading.{below_or_not, past_the_end}
+use Rattle.edit.specs.Fresh.{free_below, new_nodes, hole_record, three, free_record}
 use Rattle.edit.specs.Memory.{BlankedFirst}
 use Rattle.edit.specs.Edits.{highest, Made}
 use Rattle.edit.specs.Calls.{hole_tree, hole_trees, hole_at_place, MakeWork}
-use Rattle.edit.proofs.Blanks.{free_is_blank}
-use Rattle.edit.proofs.NewNodes.{three_at}
+use Rattle.edit.proofs.FreedClipping.{free_is_blank}
 
 -- the highest numbers by place, and none past them
 pub highest_at : (n count k : ℕ) → k < count → get_or (highest n count) k none ≡ n - 1 - k
@@ -28,6 +27,12 @@ pub highest_past : (n count k : ℕ) → count ≤ k → get_or (highest n count
 highest_past n zero k h = refl
 highest_past n (suc count) zero h = absurd (omega arith)
 highest_past n (suc count) (suc k) h = highest_past (n - 1) count k (omega arith)
+
+pub three_at : (xs : List ℕ) (k : ℕ) → k < 3 → get_or (three xs) k 0 ≡ get_or xs k none
+three_at xs zero h = refl
+three_at xs (suc zero) h = refl
+three_at xs (suc (suc zero)) h = refl
+three_at xs (suc (suc (suc k))) h = absurd (omega arith)
 
 -- the trees of holes by place: a hole for each number that has a symbol, and nothing past them
 pub hole_trees_at : (ns symbols : List ℕ) (k : ℕ) (d e : ℕ) → k < length ns → k < length symbols → get_or (hole_trees ns symbols) k Tree.none ≡ hole_tree (get_or ns k d) (get_or symbols k e)
@@ -109,7 +114,7 @@ module _ (g : Grammar) (text : ℕ → List Segment) (limits : Limits g text) (n
       children = λ j i. absurd (let i' : j < length (g.children (child g 0 k)) = rw (made.hole k h) at i in let z : length (g.children (child g 0 k)) ≡ 0 = ap length is_hole.2 in omega arith);
       no_further = λ j i l. rw (made.hole k h) (hole_fields (child g 0 k) 0 j l);
       hangs = below (λ e. absurd (omega arith)) (rw (made.hole k h) start_used) (rw (made.hole k h) one_child);
-      climbs = (0, goes_on 0 hole_used (rw (made.hole k h) refl) (λ e. omega arith) (ends start_used (rw made.start_is refl) refl));
+      climbs = (0, goes_on 0 hole_used (rw (made.hole k h) refl) (ends start_used (rw made.start_is refl) refl));
     }
 
   -- node 0

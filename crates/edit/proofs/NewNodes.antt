@@ -1,12 +1,12 @@
 -- The new nodes of an edit are free, different and in the table.
-use Rattle.std.proofs.Common.{◌≡◌, ℕ, zero, suc, ◌<◌, ◌≤◌, Bool, true, false, List, [], ◌∷◌, length, get_or, take, sym, refl, ap, ◌∙◌, inl, inr, arith}
+use Rattle.std.proofs.Common.{◌≡◌, ℕ, zero, suc, ◌*◌, ◌<◌, ◌≤◌, Bool, true, false, List, [], ◌∷◌, length, get_or, take, sym, refl, ap, ◌∙◌, inl, inr, arith}
 use Rattle.std.proofs.lemmas.List.{get_or-take, length-take-le}
 use Rattle.table.specs.declared.node.Node.{Node}
 use Rattle.table.specs.Nodes.{none, at}
 use Rattle.table.specs.Represents.{In}
 use Rattle.table.proofs.Reading.{below_or_not}
 use Rattle.edit.specs.Fresh.{free_below, free_numbers, new_nodes, three, NewNodes}
-use Rattle.edit.specs.Planting.{Apart}
+use Rattle.edit.specs.Planting.{Apart, Roomy}
 
 -- numbers of free nodes below a bound, each lower than the one before
 pub record Falling (ns : List Node) (bound : ℕ) (xs : List ℕ) : Type 0 where
@@ -120,3 +120,7 @@ module _ (ns : List Node) (count : ℕ) (fields : List ℕ) (some : count ≤ 3)
   taken_fields =
       let size = new_length ns count new.enough in
       ap (take count) new.named ∙ ap (λ k. take k (three (new_nodes ns count))) (sym size) ∙ all_taken (new_nodes ns count) (omega (arith, size, some))
+
+  -- every new node has its four values
+  pub new_roomy : (values : ℕ) → 4 * length ns ≤ values → Roomy values count fields
+  new_roomy values room k h = omega (arith, room, new_apart.inside k h)

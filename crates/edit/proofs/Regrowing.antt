@@ -9,7 +9,7 @@ use Rattle.table.specs.Sheets.{Sheet, Good, InOrder, Hangs, root, clipping, belo
 use Rattle.table.specs.Represents.{Represents}
 use Rattle.table.specs.Testing.{RecordFits}
 use Rattle.table.proofs.Climbs.{climb_unique}
-use Rattle.table.proofs.Reading.{never_none, in_order}
+use Rattle.table.proofs.Reading.{in_order}
 use Rattle.table.proofs.Frame.{Kept, framed, same_record_kept}
 use Rattle.table.proofs.Under.{climb_used, under_used, itself}
 use Rattle.table.proofs.Members.{AtMostThree, members, member_under}
@@ -65,7 +65,7 @@ module _ (g : Grammar) (before after : List Node) (n : ℕ) (sheet : Sheet g bef
 
   pub climb_persists : {r x : ℕ} → Climb before r x → Climb after r x
   climb_persists {r} {x} (ends u e f) = ends (persists x u).used ((persists x u).parent ∙ e) f
-  climb_persists {r} {x} (goes_on m u e q c) = goes_on m (persists x u).used ((persists x u).parent ∙ e) q (climb_persists c)
+  climb_persists {r} {x} (goes_on m u e c) = goes_on m (persists x u).used ((persists x u).parent ∙ e) (climb_persists c)
 
   child_persists : (q m : ℕ) → Used before q → OneChildOf g before q m → OneChildOf g after q m
   child_persists q m u o = elim (equal_or_not q n) [
@@ -123,8 +123,8 @@ module _ (g : Grammar) (before after : List Node) (n : ℕ) (sheet : Sheet g bef
             parent = ap (λ (i : ℕ). (at after i).parent) f ∙ v.parent ∙ c.parent;
           }
 
-  at_new : length before ≤ 1000 → (x : ℕ) → x < length before → NewUnder g before after n x → InOrder g after x
-  at_new few x h new =
+  at_new : (x : ℕ) → x < length before → NewUnder g before after n x → InOrder g after x
+  at_new x h new =
       let u : Used after x = (omega (arith, h, changed.many), new.used) in
       record {
         production_exists = new.fits.production_exists;
@@ -133,7 +133,7 @@ module _ (g : Grammar) (before after : List Node) (n : ℕ) (sheet : Sheet g bef
         children = new.fits.children;
         no_further = new.fits.no_further;
         hangs = hung_below new.other (subst (λ (i : ℕ). Used after i) (sym new.parent) (persists n here).used) (subst (λ (i : ℕ). OneChildOf g after i x) (sym new.parent) new.hangs);
-        climbs = ((in_order sheet n here).climbs.0, goes_on n u new.parent (never_none before few n here) (climb_persists (in_order sheet n here).climbs.1));
+        climbs = ((in_order sheet n here).climbs.0, goes_on n u new.parent (climb_persists (in_order sheet n here).climbs.1));
       }
 
   good_used : (x : ℕ) → (at after x).used ≡ true → InOrder g after x → Good g after x
@@ -150,14 +150,14 @@ module _ (g : Grammar) (before after : List Node) (n : ℕ) (sheet : Sheet g bef
       go false t = good_free x (ap (λ nd. nd.used) e ∙ t) (rw e (rw (t, Good) at (sheet.each x h)))
 
   -- the nodes form a sheet afterwards
-  pub sheet_after : length before ≤ 1000 → Sheet g after
-  sheet_after few = record {
+  pub sheet_after : Sheet g after
+  sheet_after = record {
     root_used = (persists 0 sheet.root_used).used;
     each = λ x h. let h' : x < length before = omega (arith, h, changed.many) in elim (equal_or_not x n) [
       | inl q ↦ subst (λ (i : ℕ). Good g after i) (sym q.1) (good_used n changed.used at_node)
       | inr q ↦ elim (changed.others x h' q.1) [
         | inl e ↦ good_same x h' e
-        | inr new ↦ good_used x new.used (at_new few x h' new)
+        | inr new ↦ good_used x new.used (at_new x h' new)
       ]
     ];
   }
@@ -172,7 +172,7 @@ module _ (g : Grammar) (before after : List Node) (n : ℕ) (sheet : Sheet g bef
     clippings = λ r t is tt' rep.
         framed before after t r rep (λ x i.
         let c : Climb before r x = (members g before sheet few three t r rep is.2 x).0 i in
-        kept x (climb_used c) (λ e. is.1 (climb_unique before r 0 n (subst (λ (j : ℕ). Climb before r j) e c) on)));
+        kept x (climb_used c) (λ e. is.1 (climb_unique before (omega arith) r 0 n (subst (λ (j : ℕ). Climb before r j) e c) on)));
   }
     where
       kept : (x : ℕ) → Used before x → (x ≡ n → ⊥) → Kept before after x

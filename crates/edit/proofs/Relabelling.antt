@@ -93,7 +93,7 @@ module _ (g : Grammar) (before after : List Node) (n : ℕ) (l : ℤ) (sheet : S
   retype_work meaning nothing values three = record {
     records = retyped;
     same_values = refl;
-    sheet = sheet_after g before after n sheet here changed few;
+    sheet = sheet_after g before after n sheet here changed;
     trees = λ p l' a b c r. trees_after g before after n sheet here changed few three on (node n p l a b c) (new_tree p l' a b c r);
   }
 

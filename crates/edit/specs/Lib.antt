@@ -2,8 +2,9 @@ pub mod Memory
 pub mod Fresh
 pub mod Planting
 pub mod Edits
+pub mod Hanging
+pub mod Gathering
 pub mod Starting
-pub mod Touching
 pub mod Faults
 pub mod Checks
 pub mod Calls

@@ -1,6 +1,7 @@
 // The checks of the edits, in their order, all before the first write.
-ghost use Rattle.std.specs.Prelude.{◌<◌, length, MatchBool, MatchResult};
+ghost use Rattle.std.specs.Prelude.{◌≡◌, ◌<◌, [], ◌∷◌, ◌++◌, length, MatchBool, MatchResult};
 ghost use Rattle.table.specs.Refusals.{Answer, Met, First};
+ghost use Rattle.table.specs.Sheets.{Hole};
 ghost use Rattle.edit.specs.Checks.{Fitting, at_a_node, insert_checks, insert_checks_but_free, retype_checks};
 ghost use Rattle.edit.specs.Fresh.{NewNodes};
 
@@ -10,7 +11,7 @@ use grammar::Language;
 use table::{Node, begin, check_on_sheet, is_hole};
 
 // What every edit at a node checks first.
-pub fn check_at_node<L: Language>(
+pub(crate) fn check_at_node<L: Language>(
     language: &L,
     nodes: &[Node],
     values: usize,

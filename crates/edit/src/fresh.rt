@@ -1,27 +1,20 @@
 // The new nodes of an edit: the highest free numbers.
-ghost use Rattle.std.specs.Prelude.{◌≡◌, ◌<◌, ◌≤◌, [], length, MatchOption};
-ghost use Rattle.edit.specs.Fresh.{free_below, free_numbers, NextFree, NewNodes};
+ghost use Rattle.std.specs.Prelude.{◌≡◌, ℕ, ◌<◌, ◌≤◌, [], ◌∷◌, length, MatchOption};
+ghost use Rattle.edit.specs.Fresh.{free_below, free_numbers, new_nodes, three, NextFree, NewNodes};
 
 use table::{NONE, Node};
 
 // The highest free node below a number, if any is free there.
-fn next_free(nodes: &[Node], below: usize) -> Option<usize>
+pub(crate) fn next_free(nodes: &[Node], below: u16) -> Option<u16>
     requires { below ≤ length nodes.now }
     ensures { MatchOption result (free_below nodes.now below ≡ []) (NextFree nodes.now below) }
 {
     for n in (0..below).rev() {
-        if !nodes[n].used {
+        if !nodes[n as usize].used {
             return Some(n);
         }
     }
     None
-}
-
-// The highest free node, if any is free.
-pub fn highest_free(nodes: &[Node]) -> Option<usize>
-    ensures { MatchOption result (free_numbers nodes.now ≡ []) (NextFree nodes.now (length nodes.now)) }
-{
-    next_free(nodes, nodes.len())
 }
 
 // The child fields for some new nodes, none where too few are free.
@@ -30,11 +23,11 @@ pub(crate) fn new_nodes(nodes: &[Node], count: usize) -> Option<[u16; 3]>
     ensures { MatchOption result (length (free_numbers nodes.now) < count) (NewNodes nodes.now count) }
 {
     let mut children = [NONE, NONE, NONE];
-    let mut below = nodes.len();
+    let mut below = nodes.len() as u16;
     for k in 0..count {
         match next_free(nodes, below) {
             Some(n) => {
-                children[k] = n as u16;
+                children[k] = n;
                 below = n;
             }
             None => {

@@ -3,7 +3,7 @@ ghost use Rattle.std.specs.Prelude.{◌≡◌, ◌<◌, ◌≤◌, length, take,
 ghost use Rattle.table.specs.Nodes.{at as record_at};
 ghost use Rattle.edit.specs.Memory.{Blanked};
 ghost use Rattle.edit.specs.Fresh.{hole_record, with_production};
-ghost use Rattle.edit.specs.Planting.{Apart, Planted};
+ghost use Rattle.edit.specs.Planting.{Apart, Planted, Roomy};
 ghost use Rattle.edit.specs.Calls.{InsertCall};
 
 use crate::checks::check_insert;
@@ -46,7 +46,7 @@ fn put_holes(nodes: &mut [Node], symbols: &[u8], parent: u16, at: [u16; 3])
 
 // Makes the values of the first nodes of a list blank.
 fn blank_nodes<L: Language>(values: &mut [L::Row], at: [u16; 3], count: usize)
-    requires { count ≤ 3 }
+    requires { (count ≤ 3) × (Roomy (length values.old) count «at») }
     ensures { Blanked (λ row. L.Value.Figure.means (L.Value.Figure.reads row)) L.Value.Figure.nothing (take count «at») values.old values.new }
 {
     for k in 0..count {

@@ -1,16 +1,26 @@
-// What the calls that change a sheet do to records and rows: make, insert and retype, and what the other edits share with them.
-pub mod checks;
+// The work of the calls that change a sheet, on records and rows: make, insert, cut, paste, exchange, retype and discard.
+#![tactic(auto)]
+
+mod checks;
+mod clipping_checks;
+mod cutting;
+mod discarding;
+mod exchanging;
 pub mod fault;
-pub mod fresh;
+mod fresh;
+mod hang;
 mod inserting;
 mod making;
-pub mod opened;
-pub mod records;
+mod pasting;
+mod records;
 mod retyping;
-pub mod rows;
+mod rows;
 
+pub use cutting::cut;
+pub use discarding::discard;
+pub use exchanging::exchange;
 pub use fault::EditFault;
 pub use inserting::insert;
 pub use making::make;
-pub use opened::OpenedBy;
+pub use pasting::paste;
 pub use retyping::retype;

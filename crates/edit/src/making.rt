@@ -1,5 +1,5 @@
 // Make: a sheet with production 0 over holes and nothing else.
-ghost use Rattle.std.specs.Prelude.{◌<◌, ◌≤◌, length};
+ghost use Rattle.std.specs.Prelude.{ℕ, ◌<◌, ◌≤◌, length};
 ghost use Rattle.edit.specs.Calls.{MakeCall};
 ghost use Rattle.edit.specs.Edits.{Made};
 ghost use Rattle.edit.specs.Starting.{FreeTo, HolesPut};

@@ -5,7 +5,7 @@ ghost use Rattle.edit.specs.Fresh.{free_record, hole_record};
 use table::{NONE, Node};
 
 // The record of a free node.
-pub fn free_node() -> Node
+pub(crate) fn free_node() -> Node
     ensures { result ≡ free_record }
 {
     Node {
@@ -18,7 +18,7 @@ pub fn free_node() -> Node
 }
 
 // The record of a hole of a symbol under a parent.
-pub fn hole_node(symbol: u8, parent: u16) -> Node
+pub(crate) fn hole_node(symbol: u8, parent: u16) -> Node
     ensures { result ≡ hole_record symbol parent }
 {
     Node {

@@ -4,17 +4,17 @@ ghost use Rattle.edit.specs.Memory.{Blanked, BlankedFirst};
 
 use grammar::{Figure, Language};
 
-// Stores one row, where there is a value with that number.
+// Stores one row.
 fn put_row<R: Copy>(values: &mut [R], f: usize, row: R)
+    requires { f < length values.old }
     ensures { values.new ≡ slice_set values.old f row }
 {
-    if f < values.len() {
-        values[f] = row;
-    }
+    values[f] = row;
 }
 
 // Makes the four values of a node blank.
-pub fn blank_node<L: Language>(values: &mut [L::Row], n: u16)
+pub(crate) fn blank_node<L: Language>(values: &mut [L::Row], n: u16)
+    requires { 4 * n + 4 ≤ length values.old }
     ensures { Blanked (λ row. L.Value.Figure.means (L.Value.Figure.reads row)) L.Value.Figure.nothing (n ∷ []) values.old values.new }
 {
     let row = L::Value::blank().store();

@@ -1,6 +1,6 @@
 // Figures: the values of attributes, their meanings, and the rows in which they lie in lent memory.
-ghost use Rattle.std.specs.Prelude.{◌≡◌, true, slice_index_or};
-ghost use Rattle.grammar.specs.Values.{meanings};
+ghost use Rattle.std.specs.Prelude.{◌≡◌, ℕ, true, List, slice_index_or};
+ghost use Rattle.grammar.specs.Values.{meaning_at, meanings};
 
 // A kind of figure. A figure is the value of one attribute at one node; each value has a meaning, and two values are the same
 // exactly when their meanings are equal. A value lies in memory as a row, a plain type with no invariant: every row reads as some value.

@@ -1,5 +1,5 @@
 // Languages: a fixed table, a fixed function for each rule, and a text for each production.
-ghost use Rattle.std.specs.Prelude.{◌≡◌, ℕ, List, map, ℤ};
+ghost use Rattle.std.specs.Prelude.{◌≡◌, ℕ, List, map, length, ℤ};
 ghost use Rattle.grammar.specs.Grammar.{Grammar, arguments};
 ghost use Rattle.grammar.specs.Text.{Segment, segment};
 ghost use Rattle.grammar.specs.Limits.{Limits};

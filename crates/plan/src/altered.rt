@@ -1,4 +1,5 @@
 // The altered plan: as the plan, but that the scope after a declaration takes the type of the declaration's term as well.
+ghost use Rattle.std.specs.Prelude.{◌≡◌};
 ghost use Rattle.plan.specs.Table.{altered_grammar, plan_rule, plan_text};
 ghost use Rattle.plan.specs.TableLimits.{altered_limits};
 

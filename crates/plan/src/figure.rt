@@ -1,5 +1,5 @@
 // The figures of a plan: scopes, types and counts, and the rows in which they lie in lent memory.
-ghost use Rattle.std.specs.Prelude.{◌≡◌};
+ghost use Rattle.std.specs.Prelude.{◌≡◌, ℕ, true};
 ghost use Rattle.plan.specs.declared.figure.PlanType.{PlanType};
 ghost use Rattle.plan.specs.Figures.{number_of_type, type_of_number, blank_figure, read_row, scope_in, type_in, count_in};
 

@@ -1,4 +1,5 @@
 // Plans as a language: the table's answers, the rules, and the texts.
+ghost use Rattle.std.specs.Prelude.{◌≡◌};
 ghost use Rattle.plan.specs.Table.{plan_grammar, plan_rule, plan_text};
 ghost use Rattle.plan.specs.TableLimits.{plan_limits};
 

@@ -1,2 +1,1 @@
-pub mod LentCalls
 pub mod Session

@@ -1,8 +1,8 @@
 // The probe: reads a script from standard input, and prints one line for each of its calls.
-mod lent_calls;
+#![tactic(auto)]
+
 mod session;
 
-use calls::call::Program;
 use script::conversation::run;
 use session::Session;
 use std::io;
@@ -12,6 +12,6 @@ fn main(rt: HostRuntime) -> io::Result<()> {
     let mut script = Vec::new(rt.alloc());
     rt.stdin().read_to_end(&mut script)?;
     let mut session = Session::Unchosen;
-    let printed = run(rt.alloc(), Program::Probe, &mut session, &script)?;
+    let printed = run(rt.alloc(), &mut session, &script)?;
     rt.stdout().write_all(&printed)
 }

@@ -7,14 +7,10 @@ use Rattle.circularity.specs.declared.fault.Layer.{Layer}
 use Rattle.circularity.specs.declared.fault.Layer.TheVariants.{Language, Table, Edit, Reading}
 use Rattle.circularity.specs.declared.fault.Named.{Named}
 use Rattle.circularity.specs.declared.fault.Named.TheVariants.{Nothing, Production, Node}
-use Rattle.edit.specs.Faults as edit
-use Rattle.edit.specs.declared.fault.EditFault.{EditFault}
-use Rattle.edit.specs.declared.opened.OpenedBy.{OpenedBy}
-use Rattle.edit.specs.declared.opened.OpenedBy.TheVariants.{Make, Insert, Cut, Paste, Exchange, Retype}
 use Rattle.script.specs.declared.answer.Answer.{Answer}
-use Rattle.script.specs.declared.answer.Answer.TheVariants.{Done, Passes, Refused, NotAccepted, Open, NoSheet, EndsOpen}
-use Rattle.calls.specs.declared.call.Reason.{Reason}
-use Rattle.calls.specs.declared.call.Reason.TheVariants.{UnknownCall, WrongNumberOfWords, UnknownLanguage, UnknownValue, NotANumber, NumberDoesNotFit, NoLanguage, LanguageChosen, SheetMade, NotLent, OtherKind}
+use Rattle.script.specs.declared.answer.Answer.TheVariants.{Done, Passes, Refused, NotAccepted, NoSheet}
+use Rattle.script.specs.declared.call.Reason.{Reason}
+use Rattle.script.specs.declared.call.Reason.TheVariants.{UnknownCall, WrongNumberOfWords, UnknownLanguage, NoLanguage, LanguageChosen}
 
 abbrev pub layer_text : Layer → List ℕ
 layer_text Language = codes "language"
@@ -26,23 +22,8 @@ abbrev pub reason_text : Reason → List ℕ
 reason_text UnknownCall = codes "unknown call"
 reason_text WrongNumberOfWords = codes "wrong number of words"
 reason_text UnknownLanguage = codes "unknown language"
-reason_text UnknownValue = codes "unknown value"
-reason_text NotANumber = codes "not a number"
-reason_text NumberDoesNotFit = codes "number does not fit"
 reason_text NoLanguage = codes "no language chosen"
 reason_text LanguageChosen = codes "language already chosen"
-reason_text SheetMade = codes "sheet already made"
-reason_text NotLent = codes "not lent"
-reason_text OtherKind = codes "no value of this language"
-
--- the call that left a sheet open
-abbrev pub opened_text : OpenedBy → List ℕ
-opened_text Make = codes "make"
-opened_text Insert = codes "insert"
-opened_text Cut = codes "cut"
-opened_text Paste = codes "paste"
-opened_text Exchange = codes "exchange"
-opened_text Retype = codes "retype"
 
 -- what a refusal names, with a blank in front
 abbrev pub named_text : Named → List ℕ
@@ -56,15 +37,9 @@ answer_text (Passes relations) = codes "passes " ++ decimal relations
 answer_text (Refused number layer named) =
     codes "refused " ++ (decimal number ++ (codes " " ++ (layer_text layer ++ named_text named)))
 answer_text (NotAccepted reason) = codes "not accepted: " ++ reason_text reason
-answer_text (Open call node) = codes "open " ++ (opened_text call ++ (codes " " ++ decimal node))
 answer_text NoSheet = codes "no sheet"
-answer_text (EndsOpen clippings) = codes "open, " ++ (decimal clippings ++ codes " clippings")
 
 -- A pass says how many relations there are; a fault is refused by its number, its layer and what it names.
 abbrev pub test_answer : Result Passed LanguageFault → Answer
 test_answer (Ok passes) = Passes passes.relations
 test_answer (Err fault) = Refused (number_of fault) (layer_of fault) (named_by fault)
-
--- a fault of an edit is refused likewise
-abbrev pub refusal_answer : EditFault → Answer
-refusal_answer fault = Refused (edit.number_of fault) (edit.layer_of fault) (edit.named_by fault)

@@ -1,3 +1,5 @@
+pub mod Words
+pub mod Reading
 pub mod Answers
 pub mod Printed
 pub mod Transcript

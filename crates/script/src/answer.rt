@@ -1,11 +1,10 @@
 // Answers: what a call is answered, and the bytes that are printed for it.
 ghost use Rattle.std.specs.Prelude.{◌≡◌, IfOk, string_bytes};
-ghost use Rattle.script.specs.Answers.{layer_text, reason_text, opened_text, named_text, answer_text, test_answer, refusal_answer};
+ghost use Rattle.script.specs.Answers.{layer_text, reason_text, named_text, answer_text, test_answer};
 
-use calls::call::Reason;
+use crate::call::Reason;
 use circularity::Passes;
 use circularity::fault::{LanguageFault, Layer, Named};
-use edit::{EditFault, OpenedBy};
 use std::alloc::{AllocError, Global};
 
 #[derive(Clone, Copy)]
@@ -18,11 +17,7 @@ pub enum Answer {
         named: Named,
     },
     NotAccepted(Reason),
-    // the call that left the sheet open, and the node that its handle keeps
-    Open(OpenedBy, u16),
     NoSheet,
-    // an open sheet at the end, and how many clippings are held
-    EndsOpen(u64),
 }
 
 fn layer_text(layer: Layer) -> &'static str
@@ -43,27 +38,8 @@ fn reason_text(reason: Reason) -> &'static str
         Reason::UnknownCall => "unknown call",
         Reason::WrongNumberOfWords => "wrong number of words",
         Reason::UnknownLanguage => "unknown language",
-        Reason::UnknownValue => "unknown value",
-        Reason::NotANumber => "not a number",
-        Reason::NumberDoesNotFit => "number does not fit",
         Reason::NoLanguage => "no language chosen",
         Reason::LanguageChosen => "language already chosen",
-        Reason::SheetMade => "sheet already made",
-        Reason::NotLent => "not lent",
-        Reason::OtherKind => "no value of this language",
-    }
-}
-
-fn opened_text(call: OpenedBy) -> &'static str
-    ensures { result.now ≡ opened_text call }
-{
-    match call {
-        OpenedBy::Make => "make",
-        OpenedBy::Insert => "insert",
-        OpenedBy::Cut => "cut",
-        OpenedBy::Paste => "paste",
-        OpenedBy::Exchange => "exchange",
-        OpenedBy::Retype => "retype",
     }
 }
 
@@ -99,12 +75,7 @@ impl Answer {
                 let why = reason_text(reason);
                 format!(in heap; "not accepted: {why}")
             }
-            Answer::Open(call, node) => {
-                let by = opened_text(call);
-                format!(in heap; "open {by} {node}")
-            }
             Answer::NoSheet => String::from_str(heap, "no sheet"),
-            Answer::EndsOpen(clippings) => format!(in heap; "open, {clippings} clippings"),
         }
     }
 
@@ -119,17 +90,6 @@ impl Answer {
                 layer: fault.layer(),
                 named: fault.names(),
             },
-        }
-    }
-
-    // The answer of a refused edit.
-    pub fn of_fault(fault: EditFault) -> Answer
-        ensures { result ≡ refusal_answer fault }
-    {
-        Answer::Refused {
-            number: fault.number(),
-            layer: fault.layer(),
-            named: fault.names(),
         }
     }
 }

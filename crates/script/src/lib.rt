@@ -1,5 +1,12 @@
-// Scripts: what is printed for the lines of a script, by what a conversation answers to their calls.
+// Scripts: the calls that a line of a script makes, and the lines that answer them.
+#![tactic(auto)]
+
+ghost use Rattle.std.specs.Prelude.{ℕ};
+
 pub mod answer;
+pub mod call;
 pub mod conversation;
 pub mod printing;
+pub mod reading;
 pub mod testing;
+pub mod words;

@@ -1,10 +1,10 @@
 // Printing: the line that is printed for a line of the script.
 ghost use Rattle.std.specs.Prelude.{◌≡◌, ◌++◌, OnOk};
 ghost use Rattle.script.specs.Printed.{echoed, after_arrow, reply};
-ghost use Rattle.calls.specs.Words.{words};
+ghost use Rattle.script.specs.Words.{words};
 
 use crate::answer::Answer;
-use calls::words::first_word;
+use crate::words::first_word;
 use std::alloc::{AllocError, Global};
 
 // Prints the words of a line, each with a blank behind it.

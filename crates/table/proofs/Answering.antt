@@ -1,7 +1,8 @@
 -- From a decided test to what a function promises of its answer.
-use Rattle.std.proofs.Common.{◌≡◌, ℕ, Bool, true, false, eqb, List, MatchBool, refl, subst, arith}
+use Rattle.std.proofs.Common.{◌≡◌, ℕ, ◌≤◌, Bool, true, false, eqb, List, length, MatchBool, refl, subst, arith}
 use Rattle.std.proofs.lemmas.Bool.Decides.{Decides-eqb}
 use Rattle.table.specs.declared.node.Node.{Node}
+use Rattle.table.specs.Nodes.{none}
 use Rattle.table.specs.Climbing.{Climb, OnSheet}
 use Rattle.table.proofs.Climbs.{climb_unique}
 
@@ -20,5 +21,5 @@ by_equal x y right wrong =
     not_both false t f = let z : ◌≡◌ {A = ℕ} 0 1 = cc in omega arith
 
 -- a node is on the sheet exactly when its climb ends at node 0
-pub on_sheet_by_top : (ns : List Node) (top n : ℕ) → Climb ns top n → MatchBool (eqb top 0) (OnSheet ns n) (OnSheet ns n → ⊥)
-on_sheet_by_top ns top n c = by_equal top 0 (λ e. subst (λ (r : ℕ). Climb ns r n) e c) (λ ne on. ne (climb_unique ns top 0 n c on))
+pub on_sheet_by_top : (ns : List Node) → length ns ≤ none → (top n : ℕ) → Climb ns top n → MatchBool (eqb top 0) (OnSheet ns n) (OnSheet ns n → ⊥)
+on_sheet_by_top ns few top n c = by_equal top 0 (λ e. subst (λ (r : ℕ). Climb ns r n) e c) (λ ne on. ne (climb_unique ns few top 0 n c on))

@@ -24,7 +24,7 @@ at_most_three g text limits p h = (limits.each p h).few_children
 module _ (g : Grammar) (ns : List Node) (sheet : Sheet g ns) (few : length ns ≤ 1000) where
   -- a child field that names a used node names a node under this one
   pub child_under : (n : ℕ) → Used ns n → (k : ℕ) → k < 3 → Used ns (child_field (at ns n) k) → Under ns n (child_field (at ns n) k)
-  child_under n u k h v = up n v (used_child sheet few n u k h v).1.parent (never_none ns few n u) (itself u refl)
+  child_under n u k h v = up n v (used_child sheet few n u k h v).1.parent (itself u refl)
 
   pub member_under : (x : ℕ) (t : Tree) (n : ℕ) → Represents ns n t → In x (numbers t) → Under ns n x
   member_under x = tree_induction (λ t. (n : ℕ) → Represents ns n t → In x (numbers t) → Under ns n x) (λ n r i. absurd i)
@@ -64,7 +64,7 @@ module _ (g : Grammar) (ns : List Node) (sheet : Sheet g ns) (few : length ns �
 
     pub under_member : (t : Tree) (n : ℕ) → Represents ns n t → {x : ℕ} → Under ns n x → In x (numbers t)
     under_member t n r {x} (itself u e) = subst (λ (i : ℕ). In i (numbers t)) (sym e) (root_in ns n t (never_none ns few n (subst (λ (i : ℕ). Used ns i) e u)) r)
-    under_member t n r {x} (up k u e q w) = child_in x k u e (under_used w) t n r (under_member t n r w)
+    under_member t n r {x} (up k u e w) = child_in x k u e (under_used w) t n r (under_member t n r w)
 
     -- the tree under a node has exactly the nodes under it
     pub members_under : (t : Tree) (n : ℕ) → Represents ns n t → (x : ℕ) → (In x (numbers t) → Under ns n x) × (Under ns n x → In x (numbers t))

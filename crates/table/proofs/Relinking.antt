@@ -45,7 +45,7 @@ module _ (g : Grammar) (ns : List Node) (sheet : Sheet g ns) (few : length ns �
     where
       lower : (n i m : ℕ) → i ≡ n → (i ≡ m → ⊥) → (Under ns m n → m ≡ n) → Used ns n → (k : ℕ) → k < 3 → Used ns (child_field (at ns n) k) → Under ns m (child_field (at ns n) k) → m ≡ child_field (at ns n) k
       lower n i m e other above u k h v (itself u' f) = sym f
-      lower n i m e other above u k h v (up j u' f q z) =
+      lower n i m e other above u k h v (up j u' f z) =
           absurd (other (e ∙ sym (above (subst (λ (y : ℕ). Under ns m y) (sym f ∙ (used_child sheet few n u k h v).1.parent) z))))
 
   -- a node of the tree that does not lie under m stands around m's subtree
@@ -94,7 +94,7 @@ module _ (g : Grammar) (ns : List Node) (sheet : Sheet g ns) (few : length ns �
         parent = names q used_q k h e
 
         under_m : Under ns n m
-        under_m = up q v parent (never_none ns few q used_q) under_q
+        under_m = up q v parent under_q
 
         above : Under ns m n → m ≡ n
         above w = sym (under_both_ways ns few (depth_at n (root_used ns n q t r i)).1 under_m w)

@@ -1,7 +1,7 @@
 -- A push and a pop, said of the slots and the count.
-use Rattle.std.proofs.Common.{◌≡◌, ℕ, ◌+◌, ◌-◌, ◌<◌, ◌≤◌, Bool, true, false, List, length, get_or, take, set, refl, ap, ◌∙◌, arith}
+use Rattle.std.proofs.Common.{◌≡◌, ℕ, ◌+◌, ◌-◌, ◌<◌, ◌≤◌, List, [], ◌∷◌, ◌++◌, length, get_or, take, set, refl, ap, ◌∙◌, arith}
 use Rattle.std.proofs.lemmas.List.{take_more, take_more_set}
-use Rattle.table.specs.Stacks.{Pushed, Popped, PushAnswer}
+use Rattle.table.specs.Stacks.{Pushed, Popped}
 
 module _ {T : Type 0} (slots : List T) (len : ℕ) where
   pub pushes : (x : T) → len < length slots → Pushed x slots (set slots len x) len (len + 1)
@@ -11,8 +11,3 @@ module _ {T : Type 0} (slots : List T) (len : ℕ) where
   pops d some fits =
       let back : len ≡ (len - 1) + 1 = omega arith in
       record { count = back; same_slots = refl; held = ap (λ n. take n slots) back ∙ take_more slots (len - 1) d (omega arith) }
-
--- where a slot is left, the entry comes on top
-pub push_with_room : {T : Type 0} (x : T) (slots slots' : List T) (len len' : ℕ) (r : Bool) → PushAnswer x slots slots' len len' r → len < length slots → Pushed x slots slots' len len'
-push_with_room x slots slots' len len' true answer room = answer.1
-push_with_room x slots slots' len len' false answer room = absurd (omega (arith, answer.0))

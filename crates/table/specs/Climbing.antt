@@ -3,10 +3,10 @@ use Rattle.std.specs.Prelude.{◌≡◌, ℕ, List, ◌≢◌}
 use Rattle.table.specs.declared.node.Node.{Node}
 use Rattle.table.specs.Nodes.{none, at, Used}
 
--- The climb from node n ends at node r, which has no parent. Every node on the way is in use, and all but r have a parent.
+-- The climb from node n ends at node r, which has no parent. Every node on the way is in use.
 pub data Climb (ns : List Node) : ℕ → ℕ → Type 0 where
   ends : {r n : ℕ} → Used ns n → (at ns n).parent ≡ none → r ≡ n → Climb ns r n
-  goes_on : {r n : ℕ} (m : ℕ) → Used ns n → (at ns n).parent ≡ m → (m ≢ none) → Climb ns r m → Climb ns r n
+  goes_on : {r n : ℕ} (m : ℕ) → Used ns n → (at ns n).parent ≡ m → Climb ns r m → Climb ns r n
 
 -- A node is on the sheet when its climb ends at node 0.
 abbrev pub OnSheet : List Node → ℕ → Type 0

@@ -1,5 +1,5 @@
 // The checks that calls make before they do anything, in their order.
-ghost use Rattle.std.specs.Prelude.{[], ◌∷◌, MatchBool};
+ghost use Rattle.std.specs.Prelude.{ℕ, ◌≤◌, [], ◌∷◌, length, MatchBool};
 ghost use Rattle.table.specs.Refusals.{Answer};
 ghost use Rattle.table.specs.Checks.{Sized, memory, beginning, on_sheet, long_enough};
 
@@ -45,6 +45,7 @@ pub fn begin<L: Language>(language: &L, nodes: &[Node], values: usize) -> Result
 
 // Refuses a node that is not on the sheet.
 pub fn check_on_sheet(nodes: &[Node], n: u16) -> Result<(), TableFault>
+    requires { length nodes.now ≤ 1000 }
     ensures { Answer (on_sheet nodes.now n ∷ []) result }
 {
     if !is_on_sheet(nodes, n) {

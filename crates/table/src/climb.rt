@@ -1,5 +1,5 @@
 // Climbing from a node by its parents, and what that tells of the node.
-ghost use Rattle.std.specs.Prelude.{ℕ, MatchBool, MatchOption};
+ghost use Rattle.std.specs.Prelude.{ℕ, ◌≤◌, length, MatchBool, MatchOption};
 ghost use Rattle.table.specs.Climbing.{Climb, OnSheet};
 ghost use Rattle.table.specs.Nodes.{Used};
 ghost use Rattle.table.specs.Sheets.{ClippingRoot};
@@ -18,6 +18,7 @@ pub fn is_used(nodes: &[Node], n: u16) -> bool
 
 // The node at which the climb from node n ends. A climb of as many steps as there are nodes never ends.
 pub fn top_of(nodes: &[Node], n: u16) -> Option<u16>
+    requires { length nodes.now ≤ 1000 }
     ensures { MatchOption result ((top : ℕ) → Climb nodes.now top n → ⊥) (λ top. Climb nodes.now top n) }
 {
     let mut reached = n;
@@ -36,6 +37,7 @@ pub fn top_of(nodes: &[Node], n: u16) -> Option<u16>
 
 // Whether node n is on the sheet.
 pub fn is_on_sheet(nodes: &[Node], n: u16) -> bool
+    requires { length nodes.now ≤ 1000 }
     ensures { MatchBool result (OnSheet nodes.now n) (OnSheet nodes.now n → ⊥) }
 {
     match top_of(nodes, n) {

@@ -139,7 +139,7 @@ fn is_good<L: Language>(language: &L, nodes: &[Node], n: u16) -> bool
 }
 
 // Whether the nodes form a sheet.
-pub(crate) fn is_sheet<L: Language>(language: &L, nodes: &[Node]) -> bool
+pub fn is_sheet<L: Language>(language: &L, nodes: &[Node]) -> bool
     requires { length nodes.now ≤ 1000 }
     ensures { MatchBool result (Sheet (grammar language.now) nodes.now) (Sheet (grammar language.now) nodes.now → ⊥) }
 {

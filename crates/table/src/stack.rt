@@ -1,13 +1,12 @@
 // The waiting list: one stack over lent slots.
-ghost use Rattle.std.specs.Prelude.{◌≡◌, ◌≤◌, length};
+ghost use Rattle.std.specs.Prelude.{◌≡◌, ℕ, ◌≤◌, length};
 ghost use Rattle.table.specs.Stacks.{PushAnswer, PopAnswer};
 
-// The first `len` slots hold the entries, the last of them on top. The stack changes no other memory: who lends a part of a slice has the rest as it was.
+// The first `len` slots hold the entries, the last of them on top.
 #[derive(Drop)]
 pub struct Stack<'a, T> {
     slots: &'a mut [T],
     len: usize,
-    ghost fits: { len ≤ length slots.now },
 }
 
 impl<'a, T: Copy> Stack<'a, T> {
@@ -33,6 +32,7 @@ impl<'a, T: Copy> Stack<'a, T> {
 
     // Takes the top entry off. None where there is none.
     pub fn pop(&mut self) -> Option<T>
+        requires { self.old.len ≤ length self.old.slots.now }
         ensures { PopAnswer self.old.slots.now self.new.slots.now self.old.len self.new.len result }
     {
         if self.len == 0 {

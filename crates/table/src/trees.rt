@@ -1,5 +1,5 @@
 // The trees that a sheet's records hold.
-ghost use Rattle.std.specs.Prelude.{◌≤◌, length};
+ghost use Rattle.std.specs.Prelude.{ℕ, ◌≤◌, length};
 ghost use Rattle.table.specs.Represents.{HoldsTrees};
 ghost use Rattle.table.specs.Sheets.{Sheet};
 

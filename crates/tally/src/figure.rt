@@ -1,4 +1,5 @@
 // The kind of figure: what a sum means, and the row in which it lies in memory.
+ghost use Rattle.std.specs.Prelude.{◌≡◌, true};
 ghost use Rattle.tally.specs.Figures.{value_of, read};
 
 use crate::sum::{LARGEST, Sum};

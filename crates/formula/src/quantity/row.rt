@@ -1,4 +1,5 @@
 // The row in which a figure of price formulas lies in memory, and the figure that each row reads as.
+ghost use Rattle.std.specs.Prelude.{◌≡◌, true};
 ghost use Rattle.formula.specs.Readings.{blank};
 ghost use Rattle.formula.specs.Rows.{reading_of, read};
 

@@ -1,6 +1,6 @@
 use Rattle.std.proofs.Common.{length, to_z-of_z}
 use Rattle.edit.proofs.Editing.{insert_refused}
-use Rattle.edit.proofs.Filling.{node_inside, few_symbols, fields_apart, insert_done}
+use Rattle.edit.proofs.Filling.{node_inside, few_symbols, fields_apart, fields_roomy, insert_done}
 use Rattle.edit.proofs.inserting.insert.Goals as goal
 
 pub returns-in-err-at : goal.returns-in-err-at
@@ -22,9 +22,12 @@ put-holes-requires g c = (
 )
 
 pub blank-nodes-requires : goal.blank-nodes-requires
-blank-nodes-requires g c =
-    few_symbols (g.L.Language.grammar c.args.language.now) (g.L.Language.text c.args.language.now) (g.L.Language.limits c.args.language.now) c.args.nodes.now (length c.args.values.now) c.args.n c.args.production c.args.literal _ (to_z-of_z c.ranges.literal)
-    c.in-ok-at.at c.children-symbols.result.now c.children-symbols.ensures c.in-ok-at.ensures
+blank-nodes-requires g c = (
+  few_symbols (g.L.Language.grammar c.args.language.now) (g.L.Language.text c.args.language.now) (g.L.Language.limits c.args.language.now) c.args.nodes.now (length c.args.values.now) c.args.n c.args.production c.args.literal _ (to_z-of_z c.ranges.literal)
+      c.in-ok-at.at c.children-symbols.result.now c.children-symbols.ensures c.in-ok-at.ensures,
+  fields_roomy (g.L.Language.grammar c.args.language.now) (g.L.Language.text c.args.language.now) (g.L.Language.limits c.args.language.now) c.args.nodes.now (length c.args.values.now) c.args.n c.args.production c.args.literal _ (to_z-of_z c.ranges.literal)
+      c.in-ok-at.at c.children-symbols.result.now c.children-symbols.ensures c.in-ok-at.ensures,
+)
 
 pub returns : goal.returns
 returns g c =

@@ -5,7 +5,7 @@ use Rattle.script.proofs.conversation.run.Given as goal
 
 abbrev pub invariant-loop-rest : goal.invariant-loop-rest
 invariant-loop-rest g l =
-    Goes l.program g.C.Conversation.answers g.C.Conversation.further g.C.Conversation.closing l.initial.conversation (left l.initial.rest) l.conversation
+    Goes g.C.Conversation.answers g.C.Conversation.closing l.initial.conversation (left l.initial.rest) l.conversation
     (vec_items l.out) (left l.rest)
 
 abbrev pub decreases-loop-rest : goal.decreases-loop-rest

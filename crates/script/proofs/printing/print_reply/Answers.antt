@@ -1,7 +1,7 @@
 -- The words, and what follows them.
 use Rattle.std.proofs.Common.{vec_items}
 use Rattle.script.specs.Printed.{echoed, after_arrow}
-use Rattle.calls.specs.Words.{words}
+use Rattle.script.specs.Words.{words}
 use Rattle.script.proofs.Appending.{two_more}
 use Rattle.script.proofs.printing.print_reply.Goals as goal
 

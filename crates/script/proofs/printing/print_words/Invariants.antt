@@ -1,7 +1,7 @@
 -- The words that are printed, and those that are left.
 use Rattle.std.proofs.Common.{◌≡◌, ◌++◌, length, vec_items}
 use Rattle.script.specs.Printed.{echoed}
-use Rattle.calls.specs.Words.{words}
+use Rattle.script.specs.Words.{words}
 use Rattle.script.proofs.printing.print_words.Given as goal
 
 -- what is printed, and the words that are left, make up all the words

@@ -18,4 +18,4 @@ returns-then-parent c =
     walked_ends c.args.nodes.now c.args.n c.loop-step.-step c.loop-step.reached c.loop-step.invariant c.if-not-is-used.ensures c.if-parent.true
 
 pub returns : goal.returns
-returns c = walked_out c.args.nodes.now c.args.n c.loop-step.-step c.loop-step.reached (omega arith) c.loop-step.invariant
+returns c = walked_out c.args.nodes.now c.args.n (omega arith) c.loop-step.-step c.loop-step.reached (omega arith) c.loop-step.invariant

@@ -3,4 +3,4 @@ use Rattle.table.proofs.Waiting.{pops}
 use Rattle.table.proofs.stack.Stack.pop.Goals as goal
 
 pub returns : goal.returns
-returns g c = pops _ _ _ (omega arith) c.args.self.now.fits
+returns g c = pops _ _ _ (omega arith) c.requires

@@ -1,6 +1,0 @@
-// Calls: the lines of a script, their words, and the call that a line makes.
-pub mod call;
-mod memory_reading;
-pub mod numbers;
-pub mod reading;
-pub mod words;

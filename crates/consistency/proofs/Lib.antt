@@ -1,4 +1,0 @@
-pub mod Carrying
-pub mod Untouched
-pub mod Calls
-pub mod Outside

@@ -1,0 +1,101 @@
+-- Listing the nodes of a clipping and freeing the listed nodes, step by step.
+use Rattle.std.proofs.Common.{◌≡◌, ℕ, ◌+◌, ◌<◌, ◌≤◌, eqb, ◌≢◌, List, length, get_or, set, MatchBool, sym, refl, ap, ◌∙◌, subst, inl, inr, arith, length-set}
+use Rattle.std.proofs.lemmas.List.{get_or-set_same, get_or-set_other}
+use Rattle.table.specs.declared.node.Node.{Node}
+use Rattle.table.specs.Nodes.{none, nowhere, at}
+use Rattle.table.specs.Climbing.{Climb}
+use Rattle.table.proofs.Answering.{by_equal}
+use Rattle.table.proofs.Climbs.{climb_used, climb_unique}
+use Rattle.table.proofs.Reading.{below_or_not}
+use Rattle.table.proofs.Replaced.{equal_or_not}
+use Rattle.edit.specs.Fresh.{free_record}
+use Rattle.edit.specs.Memory.{SameFrom}
+use Rattle.edit.specs.Edits.{Discarded}
+use Rattle.edit.specs.Gathering.{Listed, Gathered, Freed, ClippingFreed}
+
+-- a climb's top tells whether the climb ends at a root
+pub by_top : (ns : List Node) → length ns ≤ none → (top root n : ℕ) → Climb ns top n → MatchBool (eqb top root) (Climb ns root n) (Climb ns root n → ⊥)
+by_top ns few top root n c = by_equal top root (λ e. subst (λ (r : ℕ). Climb ns r n) e c) (λ ne d. ne (climb_unique ns few top root n c d))
+
+module _ (ns : List Node) (root : ℕ) (slots : List ℕ) where
+  pub gathered_none : Gathered ns root 0 slots slots 0
+  gathered_none = record {
+    few = omega arith;
+    climbs = λ k h. absurd (omega arith);
+    all = λ n h c. absurd (omega arith);
+    rest = record { many = refl; same = λ k d h. refl };
+  }
+
+  module _ (n count : ℕ) (slots' : List ℕ) (so_far : Gathered ns root n slots slots' count) where
+    -- the node's climb ends elsewhere
+    pub gathered_not : (Climb ns root n → ⊥) → Gathered ns root (n + 1) slots slots' count
+    gathered_not out = record {
+      few = omega (arith, so_far.few);
+      climbs = so_far.climbs;
+      all = λ m h c. elim (below_or_not m n) [
+        | inl l ↦ so_far.all m l c
+        | inr l ↦ let e : m ≡ n = omega arith in absurd (out (subst (λ (i : ℕ). Climb ns root i) e c))
+      ];
+      rest = record { many = so_far.rest.many; same = λ k d h. so_far.rest.same k d (omega arith) };
+    }
+
+    -- the node is listed behind the others
+    pub gathered_more : n < length slots → Climb ns root n → Gathered ns root (n + 1) slots (set slots' count n) (count + 1)
+    gathered_more room c = record {
+      few = omega (arith, so_far.few);
+      climbs = λ k h. elim (below_or_not k count) [
+        | inl l ↦ subst (λ (i : ℕ). Climb ns root i) (sym (before k l)) (so_far.climbs k l)
+        | inr l ↦ let e : k ≡ count = omega arith in subst (λ (i : ℕ). Climb ns root i) (sym (ap (λ i. get_or (set slots' count n) i 0) e ∙ last)) c
+      ];
+      all = λ m h d. elim (below_or_not m n) [
+        | inl l ↦ let p : Listed slots' count m = so_far.all m l d in (p.0, omega (arith, p.1), before p.0 p.1 ∙ p.2)
+        | inr l ↦ let e : n ≡ m = omega arith in (count, omega arith, last ∙ e)
+      ];
+      rest = record {
+        many = length-set slots' count n ∙ so_far.rest.many;
+        same = λ k d h. (let other : k ≢ count = omega (arith, so_far.few) in get_or-set_other slots' count k n d other) ∙ so_far.rest.same k d (omega arith);
+      };
+    }
+      where
+        before : (k : ℕ) → k < count → get_or (set slots' count n) k 0 ≡ get_or slots' k 0
+        before k l = let other : k ≢ count = omega arith in get_or-set_other {A = ℕ} slots' count k n 0 other
+
+        last : get_or (set slots' count n) count 0 ≡ n
+        last = let inside : count < length slots' = omega (arith, so_far.few, so_far.rest.many, room) in get_or-set_same {A = ℕ} slots' count n 0 inside
+
+module _ (slots : List ℕ) (before : List Node) where
+  pub freed_none : Freed slots 0 before before
+  freed_none = record { many = refl; freed = λ k h. absurd (omega arith); others = λ n out. refl }
+
+  pub freed_more : (k n : ℕ) (after : List Node) → Freed slots k before after → get_or slots k 0 ≡ n → n < length before → Freed slots (k + 1) before (set after n free_record)
+  freed_more k n after so_far named inside = record {
+    many = length-set after n free_record ∙ so_far.many;
+    freed = λ j h. elim (equal_or_not (get_or slots j 0) n) [
+      | inl q ↦ ap (λ i. at (set after n free_record) i) q.1 ∙ here
+      | inr q ↦
+          let earlier : j < k = elim (below_or_not j k) [ inl l ↦ l | inr l ↦ let e : j ≡ k = omega arith in absurd (q.1 (ap (λ i. get_or slots i 0) e ∙ named)) ] in
+          there (get_or slots j 0) q.1 ∙ so_far.freed j earlier
+    ];
+    others = λ m out.
+        there m (λ e. out (k, omega arith, named ∙ sym e))
+        ∙ so_far.others m (λ p. out (p.0, omega (arith, p.1), p.2));
+  }
+    where
+      here : at (set after n free_record) n ≡ free_record
+      here = let fits : n < length after = omega (arith, so_far.many) in get_or-set_same after n free_record nowhere fits
+
+      there : (m : ℕ) → (m ≡ n → ⊥) → at (set after n free_record) m ≡ at after m
+      there m other = get_or-set_other after n m free_record nowhere other
+
+-- the nodes of the clipping are listed, and the listed nodes freed
+pub clipping_freed : (root count : ℕ) (before after : List Node) (waiting waiting' : List ℕ) → Gathered before root (length before) waiting waiting' count → Freed waiting' count before after → ClippingFreed root before after waiting waiting'
+clipping_freed root count before after waiting waiting' listed done = record {
+  records = record {
+    many = done.many;
+    freed = λ n c.
+        let p : Listed waiting' count n = listed.all n (climb_used before root n c).0 c in
+        ap (λ i. at after i) (sym p.2) ∙ done.freed p.0 p.1;
+    others = λ n out. done.others n (λ p. out (subst (λ (i : ℕ). Climb before root i) p.2 (listed.climbs p.0 p.1)));
+  };
+  same_waiting = listed.rest;
+}

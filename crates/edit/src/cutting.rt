@@ -1,0 +1,49 @@
+// Cut: a new hole in a node's place; the node is the root of a clipping then.
+ghost use Rattle.std.specs.Prelude.{length, MatchResult};
+ghost use Rattle.table.specs.Refusals.{Met, First};
+ghost use Rattle.edit.specs.Fresh.{NextFree};
+ghost use Rattle.edit.specs.Checks.{cut_checks};
+ghost use Rattle.edit.specs.Calls.{CutCall};
+
+use crate::checks::check_at_node;
+use crate::clipping_checks::check_no_hole;
+use crate::fault::EditFault;
+use crate::fresh::next_free;
+use crate::hang::{hang, put_hole};
+use crate::rows::blank_node;
+use grammar::{Figure, Language};
+use table::Node;
+
+// What cut checks; it answers the number for the new hole.
+fn check_cut<L: Language>(
+    language: &L,
+    nodes: &[Node],
+    values: usize,
+    n: u16,
+) -> Result<u16, EditFault>
+    ensures { MatchResult result (λ hole. Met (cut_checks (grammar language.now) nodes.now values n) × NextFree nodes.now (length nodes.now) hole) (First (cut_checks (grammar language.now) nodes.now values n)) }
+{
+    check_at_node(language, nodes, values, n)?;
+    check_no_hole(language, nodes, n)?;
+    match next_free(nodes, nodes.len() as u16) {
+        Some(hole) => Ok(hole),
+        None => Err(EditFault::TooFewNodes(n)),
+    }
+}
+
+// Cuts the subtree at a node out; answers the number of the hole in its place.
+pub fn cut<L: Language>(
+    language: &L,
+    nodes: &mut [Node],
+    values: &mut [L::Row],
+    node: u16,
+) -> Result<u16, EditFault>
+    ensures { CutCall (grammar language.now) (λ row. L.Value.Figure.means (L.Value.Figure.reads row)) L.Value.Figure.nothing nodes.old values.old nodes.new values.new node result }
+{
+    let hole = check_cut(language, nodes, values.len(), node)?;
+    let symbol = language.symbol(nodes[node as usize].production);
+    put_hole(nodes, hole, symbol);
+    hang(nodes, hole, node);
+    blank_node::<L>(values, hole);
+    Ok(hole)
+}

@@ -1,2 +1,0 @@
-pub mod Hanging
-pub mod Discarding

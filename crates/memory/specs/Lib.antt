@@ -1,4 +1,0 @@
-pub mod Ending
-pub mod Lending
-pub mod Making
-pub mod Overwriting
