@@ -1,5 +1,5 @@
 -- One turn of a loop that gathers outcomes over a set of relations.
-use Rattle.std.proofs.Common.{◌≡◌, ℕ, suc, ◌+◌, ◌≤◌, Bool, true, false, List, get_or, set, sym, refl, ap, ◌∙◌, ap₂, add-one, arith}
+use Rattle.std.proofs.Common.{◌≡◌, ℕ, ◌+◌, ◌≤◌, Bool, true, false, List, get_or, set, sym, refl, ap, ◌∙◌, ap₂, add-one, arith}
 use lib.Bits.{bit_or}
 use Rattle.circularity.specs.declared.graph.Outcome.{Outcome}
 use Rattle.circularity.specs.Bits.{has}

@@ -1,6 +1,6 @@
 -- Numbers as sets of bits, and the closure of a graph that is held as rows of bits: what the inner functions of the test compute.
 -- Nobody has to believe this file to read the test's contract, which speaks of trees alone.
-use Rattle.std.specs.Prelude.{ℕ, zero, suc, ◌+◌, ◌*◌, ◌/◌, ◌%◌, ◌^◌, Bool, true, false, List, [], ◌∷◌, map, ◌==◌, bit_or, slice_index}
+use Rattle.std.specs.Prelude.{ℕ, zero, suc, ◌*◌, ◌/◌, ◌%◌, ◌^◌, Bool, true, false, List, map, ◌==◌, bit_or, slice_index}
 
 -- whether bit j of r is set
 abbrev pub has : ℕ → ℕ → Bool

@@ -1,12 +1,12 @@
 -- The sheet without one clipping's nodes is a sheet, and its other trees are as they were.
-use Rattle.std.proofs.Common.{◌≡◌, ℕ, zero, suc, ◌<◌, ◌≤◌, Bool, true, false, List, length, pos, sym, refl, ◌∙◌, subst, inl, inr, arith}
+use Rattle.std.proofs.Common.{◌≡◌, ℕ, zero, suc, ◌<◌, ◌≤◌, Bool, true, false, List, length, sym, refl, ◌∙◌, subst, inl, inr, arith}
 use Rattle.grammar.specs.Grammar.{Grammar}
 use Rattle.grammar.specs.Tree.{Tree}
 use Rattle.table.specs.declared.node.Node.{Node}
 use Rattle.table.specs.Nodes.{none, at, child_field, Used, Blank}
 use Rattle.table.specs.Climbing.{Climb, ends, goes_on}
 use Rattle.table.specs.Sheets.{Sheet, Good, InOrder, ChildAt, OneChildOf, Hangs, root, clipping, below, ClippingRoot}
-use Rattle.table.specs.Represents.{Represents, numbers, In}
+use Rattle.table.specs.Represents.{Represents}
 use Rattle.table.proofs.Reading.{in_order, never_none}
 use Rattle.table.proofs.Climbs.{climb_used, climb_unique}
 use Rattle.table.proofs.Under.{under_climb}

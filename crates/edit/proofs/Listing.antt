@@ -9,8 +9,6 @@ use Rattle.table.proofs.Climbs.{climb_used, climb_unique}
 use Rattle.table.proofs.Reading.{below_or_not}
 use Rattle.table.proofs.Replaced.{equal_or_not}
 use Rattle.edit.specs.Fresh.{free_record}
-use Rattle.edit.specs.Memory.{SameFrom}
-use Rattle.edit.specs.Edits.{Discarded}
 use Rattle.edit.specs.Gathering.{Listed, Gathered, Freed, ClippingFreed}
 
 -- a climb's top tells whether the climb ends at a root

@@ -1,17 +1,16 @@
 -- The table that make leaves is a sheet, with production 0 over holes under node 0 and nothing else.
-use Rattle.std.proofs.Common.{◌≡◌, ℕ, zero, suc, ◌+◌, ◌-◌, ◌*◌, ◌<◌, ◌≤◌, Bool, true, false, ◌⊎◌, List, [], ◌∷◌, length, get_or, take, pos, sym, refl, ap, ◌∙◌, subst, inl, inr, arith}
+use Rattle.std.proofs.Common.{◌≡◌, ℕ, zero, suc, ◌+◌, ◌-◌, ◌*◌, ◌<◌, ◌≤◌, Bool, true, false, List, [], ◌∷◌, length, get_or, take, pos, sym, refl, ap, ◌∙◌, subst, inl, inr, arith}
 use Rattle.grammar.specs.Grammar.{Grammar, child}
 use Rattle.grammar.specs.Limits.{Limits}
 use Rattle.grammar.specs.Text.{Segment}
 use Rattle.grammar.specs.Tree.{Tree, node}
-use Rattle.grammar.specs.Tree
 use Rattle.table.specs.declared.node.Node.{Node}
 use Rattle.table.specs.Nodes.{none, at, child_field, Used, Blank}
-use Rattle.table.specs.Climbing.{Climb, ends, goes_on}
-use Rattle.table.specs.Sheets.{Sheet, Good, InOrder, ChildAt, OneChildOf, Hangs, root, below}
+use Rattle.table.specs.Climbing.{ends, goes_on}
+use Rattle.table.specs.Sheets.{Sheet, Good, InOrder, ChildAt, OneChildOf, root, below}
 use Rattle.table.specs.Represents.{Represents}
-use Rattle.table.proofs.Reading.{below_or_not, past_the_end}
-use Rattle.edit.specs.Fresh.{free_below, new_nodes, hole_record, three, free_record}
+use Rattle.table.proofs.Reading.{below_or_not}
+use Rattle.edit.specs.Fresh.{free_below, new_nodes, hole_record, three}
 use Rattle.edit.specs.Memory.{BlankedFirst}
 use Rattle.edit.specs.Edits.{highest, Made}
 use Rattle.edit.specs.Calls.{hole_tree, hole_trees, hole_at_place, MakeWork}

@@ -1,12 +1,11 @@
 -- Freeing every node and putting down the holes of a new sheet, step by step.
-use Rattle.std.proofs.Common.{◌≡◌, ℕ, zero, suc, ◌+◌, ◌-◌, ◌<◌, ◌≤◌, true, ◌≢◌, List, [], ◌∷◌, length, get_or, set, pos, sym, refl, ap, ◌∙◌, subst, inl, inr, add-one, arith, length-set}
+use Rattle.std.proofs.Common.{◌≡◌, ℕ, zero, suc, ◌+◌, ◌-◌, ◌<◌, true, ◌≢◌, List, [], ◌∷◌, length, get_or, set, pos, sym, refl, ap, ◌∙◌, subst, inl, inr, add-one, arith, length-set}
 use Rattle.std.proofs.lemmas.List.{get_or-set_same, get_or-set_other, get_or_default}
 use Rattle.grammar.specs.Grammar.{Grammar, child}
 use Rattle.grammar.specs.Limits.{Limits}
 use Rattle.grammar.specs.Text.{Segment}
 use Rattle.table.specs.declared.node.Node.{Node}
 use Rattle.table.specs.Nodes.{none, nowhere, at}
-use Rattle.table.proofs.Reading.{below_or_not}
 use Rattle.table.proofs.Replaced.{equal_or_not}
 use Rattle.edit.specs.Fresh.{free_record, hole_record, three}
 use Rattle.edit.specs.Edits.{highest, Made}

@@ -1,16 +1,14 @@
 -- What each edit answers, and what it leaves: refused, all memory as it was; accepted, its work on records, values and trees.
-use Rattle.std.specs.Prelude.{◌≡◌, ℕ, ◌*◌, ◌<◌, List, [], ◌∷◌, length, ℤ, pos, Ok, Err, Result, ◌≢◌, slice_index_or}
-use Rattle.grammar.specs.Grammar.{Grammar, child}
-use Rattle.grammar.specs.Tree.{Tree, node, hanging}
-use Rattle.grammar.specs.Tree
+use Rattle.std.specs.Prelude.{◌≡◌, ℕ, ◌*◌, List, [], ◌∷◌, length, ℤ, pos, Ok, Err, Result, ◌≢◌, slice_index_or}
+use Rattle.grammar.specs.Grammar.{Grammar}
+use Rattle.grammar.specs.Tree.{Tree, node}
 use Rattle.table.specs.declared.node.Node.{Node}
-use Rattle.table.specs.Nodes.{none, at}
+use Rattle.table.specs.Nodes.{at}
 use Rattle.table.specs.Sheets.{Sheet, ClippingRoot}
 use Rattle.table.specs.Represents.{Represents, replace}
 use Rattle.table.specs.Refusals.{Check, Met, First}
 use Rattle.edit.specs.declared.fault.EditFault.{EditFault}
 use Rattle.edit.specs.Memory.{Blanked, BlankedFirst, SameFrom}
-use Rattle.edit.specs.Fresh.{new_nodes}
 use Rattle.edit.specs.Edits.{Inserted, Retyped, CutOut, Pasted, Exchanged, Discarded, highest, Made}
 use Rattle.edit.specs.Checks.{insert_checks, cut_checks, paste_checks, exchange_checks, retype_checks, discard_checks, make_checks}
 

@@ -2,7 +2,6 @@
 use Rattle.std.specs.Prelude.{◌≡◌, ℕ, suc, ◌<◌, ◌≤◌, T, List, [], ◌∷◌, ◌++◌, length, ℤ, ◌≢◌}
 use Rattle.grammar.specs.Grammar.{Grammar}
 use Rattle.table.specs.declared.node.Node.{Node}
-use Rattle.table.specs.declared.fault.TableFault.{TableFault}
 use Rattle.table.specs.Nodes.{at}
 use Rattle.table.specs.Sheets.{Hole, ClippingRoot}
 use Rattle.table.specs.Refusals.{Check, want, lifted}

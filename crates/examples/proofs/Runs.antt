@@ -1,10 +1,9 @@
 -- The test's verdict on a table, from sets of relations that antt computes.
-use Rattle.std.proofs.Common.{◌≡◌, ℕ, zero, suc, ◌<◌, ◌≤◌, Bool, true, false, not, ◌&&◌, ◌||◌, T, eqb, ◌⊎◌, List, [], ◌∷◌, Ok, Err, Result, sym, refl, ap, subst, inl, inr, ⊎_elim, arith, eqb→eq}
+use Rattle.std.proofs.Common.{◌≡◌, ℕ, zero, suc, ◌<◌, Bool, true, false, ◌&&◌, ◌||◌, T, eqb, ◌⊎◌, List, Ok, Err, Result, sym, ap, subst, inl, inr, ⊎_elim, arith, eqb→eq}
 use Rattle.std.proofs.lemmas.Bool.{cases_eq}
 use Rattle.grammar.specs.Grammar.{Grammar}
 use Rattle.grammar.specs.Text.{Segment}
 use Rattle.grammar.specs.Limits.{Limits}
-use Rattle.grammar.specs.Circularity.{Circular}
 use Rattle.circularity.specs.declared.Passes.{Passes}
 use Rattle.circularity.specs.declared.fault.LanguageFault.{LanguageFault}
 use Rattle.circularity.specs.declared.fault.LanguageFault.TheVariants.{Circularity}

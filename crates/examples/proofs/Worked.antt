@@ -1,5 +1,5 @@
 -- The three languages: their sets of relations, computed, and the verdicts.
-use Rattle.std.proofs.Common.{◌≡◌, ℕ, List, [], ◌∷◌, ◌++◌, replicate, refl, lit<}
+use Rattle.std.proofs.Common.{ℕ, List, ◌∷◌, replicate, refl, lit<}
 use lib.Count.{ones}
 use Rattle.circularity.specs.Working.{Saturated}
 use Rattle.formula.specs.Table.{formula_grammar, formula_text}

@@ -1,7 +1,7 @@
 -- The worked examples, in one table. They speak of the languages' own members and of the definitions that the contracts cite.
 use Rattle.std.specs.Prelude.{◌≡◌, ℕ, ◌⊎◌, List, [], ◌∷◌, ℤ, pos, negsuc, Ok, Err, Result}
 use Rattle.grammar.specs.Grammar.{Grammar}
-use Rattle.grammar.specs.Circularity.{Circular, Culprit}
+use Rattle.grammar.specs.Circularity.{Circular}
 use Rattle.circularity.specs.declared.Passes.{Passes}
 use Rattle.circularity.specs.declared.fault.LanguageFault.{LanguageFault}
 use Rattle.circularity.specs.declared.fault.LanguageFault.TheVariants.{Circularity}

@@ -1,11 +1,11 @@
 -- What comes of two numbers of 32 bits that are computed with at 64 bits.
-use Rattle.std.proofs.Common.{◌≡◌, ℕ, zero, suc, ◌/◌, ◌<◌, ◌≤◌, Bool, true, false, cond, eqb, ℤ, pos, negsuc, ◌+ℤ◌, ◌-ℤ◌, ◌*ℤ◌, neg_ℤ, nat_abs, Ok, Err, Result, sym, refl, ap, ◌∙◌, ap₂, div-le_self, arith, w32, w64, SFits, to_z, of_z}
+use Rattle.std.proofs.Common.{◌≡◌, ℕ, zero, suc, ◌/◌, ◌<◌, ◌≤◌, Bool, cond, ℤ, pos, negsuc, ◌+ℤ◌, ◌-ℤ◌, ◌*ℤ◌, neg_ℤ, nat_abs, Ok, Err, Result, sym, refl, ap, ◌∙◌, ap₂, div-le_self, arith, w32, w64, SFits, to_z, of_z}
 use borrow.Author.Numbers.{signed_product}
 use lib.Signed.{quot_z, mag}
 use Rattle.std.proofs.lemmas.Int.{ints, to_z-of_z}
 use Rattle.std.proofs.lemmas.Bool.{ne_eqb}
 use Rattle.formula.specs.declared.reading.Reading.{Reading}
-use Rattle.formula.specs.declared.reading.Reading.TheVariants.{Number, Troubled}
+use Rattle.formula.specs.declared.reading.Reading.TheVariants.{Troubled}
 use Rattle.formula.specs.declared.reading.Trouble.{Trouble}
 use Rattle.formula.specs.declared.reading.Trouble.TheVariants.{ZeroDivisor}
 use Rattle.formula.specs.Readings.{number_or_trouble}

@@ -1,6 +1,5 @@
 -- A few results, computed from the table's own rules.
-use Rattle.std.specs.Prelude.{◌≡◌, List, [], ◌∷◌, pos, negsuc, refl}
-use Rattle.formula.specs.declared.reading.Reading.{Reading}
+use Rattle.std.specs.Prelude.{◌≡◌, [], ◌∷◌, pos, negsuc, refl}
 use Rattle.formula.specs.declared.reading.Reading.TheVariants.{Number, Troubled}
 use Rattle.formula.specs.declared.reading.Trouble.TheVariants.{Hole, OutOfRange, ZeroDivisor}
 use Rattle.formula.specs.Rules.{quotient}

@@ -1,5 +1,5 @@
 -- What each operation gives of a production's literal and the rule's arguments.
-use Rattle.std.specs.Prelude.{ℕ, List, [], ◌∷◌, ℤ, slice_index_or}
+use Rattle.std.specs.Prelude.{ℕ, List, ℤ, slice_index_or}
 use Rattle.formula.specs.declared.operation.Operation.{Operation}
 use Rattle.formula.specs.declared.operation.Operation.TheVariants.{Nothing, Unbound, Hole, Literal, Same, Sum, Difference, Product, Quotient, Choose}
 use Rattle.formula.specs.declared.reading.Reading.{Reading}

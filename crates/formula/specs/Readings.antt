@@ -1,5 +1,5 @@
 -- What a figure says: a number within the range, or one of five troubles.
-use Rattle.std.specs.Prelude.{ℕ, Bool, true, false, cond, ◌&&◌, List, [], ◌∷◌, ℤ, pos, negsuc, Some, None, Option, int_le, nat_le, slice_index_or}
+use Rattle.std.specs.Prelude.{ℕ, Bool, cond, ◌&&◌, [], ◌∷◌, ℤ, pos, negsuc, Some, None, Option, int_le, nat_le, slice_index_or}
 use Rattle.formula.specs.declared.reading.Reading.{Reading}
 use Rattle.formula.specs.declared.reading.Reading.TheVariants.{Number, Troubled}
 use Rattle.formula.specs.declared.reading.Trouble.{Trouble}

@@ -1,13 +1,12 @@
 -- What a figure's row reads as.
-use Rattle.std.specs.Prelude.{◌≡◌, Bool, true, false, cond, T, Some, None, Option, refl}
+use Rattle.std.specs.Prelude.{◌≡◌, Bool, true, false, cond, T, Some, None, refl}
 use mathlib.Core.HLevel.{is_prop→PathP}
 use Rattle.std.proofs.Math.Dec.{T_prop}
 use Rattle.formula.specs.declared.quantity.Quantity.{Quantity}
 use Rattle.formula.specs.declared.quantity.row.QuantityRow.{QuantityRow}
 use Rattle.formula.specs.declared.reading.Reading.{Reading}
 use Rattle.formula.specs.declared.reading.Reading.TheVariants.{Number, Troubled}
-use Rattle.formula.specs.declared.reading.Trouble.{Trouble}
-use Rattle.formula.specs.Readings.{lawful, in_range, blank, numbered_trouble}
+use Rattle.formula.specs.Readings.{lawful, blank, numbered_trouble}
 
 -- what a figure says is its meaning
 abbrev pub reading_of : Quantity → Reading

@@ -1,10 +1,10 @@
 -- What the rules of price formulas compute from what their arguments say.
-use Rattle.std.specs.Prelude.{ℕ, suc, ◌/◌, Bool, true, false, cond, List, [], ◌∷◌, ℤ, pos, negsuc, ◌+ℤ◌, ◌-ℤ◌, ◌*ℤ◌, neg_ℤ, Ok, Err, Result, ◌==◌, int_le, unsigned_abs}
+use Rattle.std.specs.Prelude.{◌/◌, Bool, true, false, cond, ℤ, pos, negsuc, ◌+ℤ◌, ◌-ℤ◌, ◌*ℤ◌, neg_ℤ, Ok, Err, Result, ◌==◌, int_le, unsigned_abs}
 use Rattle.formula.specs.declared.reading.Reading.{Reading}
 use Rattle.formula.specs.declared.reading.Reading.TheVariants.{Number, Troubled}
 use Rattle.formula.specs.declared.reading.Trouble.{Trouble}
-use Rattle.formula.specs.declared.reading.Trouble.TheVariants.{Hole, ZeroDivisor, NothingBound}
-use Rattle.formula.specs.Readings.{blank, number_or_trouble}
+use Rattle.formula.specs.declared.reading.Trouble.TheVariants.{ZeroDivisor}
+use Rattle.formula.specs.Readings.{number_or_trouble}
 
 -- both numbers, or a's trouble, or else b's
 abbrev pub numbers : Reading → Reading → Result (ℤ × ℤ) Trouble

@@ -1,5 +1,5 @@
 -- The table of price formulas: for each production its symbol, its children, its rules and its text.
-use Rattle.std.specs.Prelude.{ℕ, Bool, true, false, List, [], ◌∷◌, map, length, ℤ, pos, codes, ◌==◌, nat_eq, slice_index, slice_index_or, unsigned_abs}
+use Rattle.std.specs.Prelude.{ℕ, Bool, true, false, List, [], ◌∷◌, map, length, ℤ, codes, ◌==◌, nat_eq, slice_index, slice_index_or, unsigned_abs}
 use Rattle.grammar.specs.declared.language.Occurrence.{Occurrence}
 use Rattle.grammar.specs.Grammar.{Grammar, Rule, is_at}
 use Rattle.grammar.specs.Text.{Segment, bytes, literal, child}

@@ -1,6 +1,6 @@
 -- The meaning of one argument of a rule, in the three cases of its loading.
-use Rattle.std.proofs.Common.{◌≡◌, ℕ, ◌<◌, ◌≤◌, List, [], ◌∷◌, map, length, get_or, sym, refl, ap, ◌∙◌, arith}
-use Rattle.std.proofs.lemmas.List.{get_or-map, get_or_past, length-map, get_or_default}
+use Rattle.std.proofs.Common.{◌≡◌, ℕ, ◌<◌, ◌≤◌, List, map, length, get_or, ◌∙◌}
+use Rattle.std.proofs.lemmas.List.{get_or-map, get_or_past, length-map}
 use Rattle.grammar.specs.Values.{meaning_at, meanings}
 
 module _ {R V M : Type 0} (means : V → M) (reads : R → V) (blank : M) (rows : List R) (fs : List ℕ) (k : ℕ) where

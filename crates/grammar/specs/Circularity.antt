@@ -1,5 +1,5 @@
 -- When a language is circular, which relations its trees have, and how many different ones.
-use Rattle.std.specs.Prelude.{◌≡◌, ℕ, zero, suc, ◌+◌, ◌<◌, ◌≤◌, ◌⊎◌, List, [], ◌∷◌, length, slice_index_or}
+use Rattle.std.specs.Prelude.{◌≡◌, ℕ, zero, suc, ◌+◌, ◌<◌, ◌≤◌, ◌⊎◌, List, [], length, slice_index_or}
 use Rattle.grammar.specs.Grammar.{Grammar, attributes}
 use Rattle.grammar.specs.Tree.{Tree, none, TreeOf, RootedBy}
 use Rattle.grammar.specs.Dependence.{Instance, instance, WaitsAtRoot, Waits, Over}

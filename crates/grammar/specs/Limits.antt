@@ -1,5 +1,5 @@
 -- The limits that every language's table and text keep. The interface asks each language for this record, so that there is none without it.
-use Rattle.std.specs.Prelude.{◌≡◌, ℕ, zero, suc, ◌+◌, ◌<◌, ◌≤◌, Bool, true, T, List, [], ◌∷◌, length, ℤ, pos, negsuc, ◌≤ℤ◌, slice_index_or}
+use Rattle.std.specs.Prelude.{◌≡◌, ℕ, zero, suc, ◌<◌, ◌≤◌, T, List, [], ◌∷◌, length, ℤ, pos, negsuc, ◌≤ℤ◌, slice_index_or}
 use Rattle.grammar.specs.declared.language.Occurrence.{Occurrence}
 use Rattle.grammar.specs.Grammar.{Grammar, attributes, child, Occurs, Given, Among, arguments, rules_for}
 use Rattle.grammar.specs.Text.{Segment, bytes, literal, named}

@@ -1,7 +1,7 @@
 -- The limits by computation: Bool tests over a table and a text, and the lemma that a table which passes them keeps the limits.
 -- There is nothing here to believe: what the limits say stands in Limits, and a test that tested too little could not prove them.
-use Rattle.std.specs.Prelude.{◌≡◌, ℕ, zero, suc, ◌+◌, ◌<◌, ◌≤◌, Bool, true, false, not, ◌&&◌, ◌||◌, T, leb, ◌⊎◌, List, [], ◌∷◌, length, ℤ, pos, ◌==◌, nat_le, nat_lt, slice_index_or, refl}
-use Rattle.std.proofs.Common.{sym, ap, subst, ◌∙◌, inl, inr, arith, eqb→eq, leb→le, ltb→lt, le→leb, lt→ltb}
+use Rattle.std.specs.Prelude.{◌≡◌, ℕ, zero, suc, ◌<◌, ◌≤◌, Bool, true, false, not, ◌&&◌, ◌||◌, T, leb, ◌⊎◌, List, [], ◌∷◌, length, ℤ, pos, ◌==◌, nat_le, nat_lt, slice_index_or, refl}
+use Rattle.std.proofs.Common.{sym, ap, subst, inl, inr, arith, eqb→eq, leb→le, ltb→lt, le→leb, lt→ltb}
 use Rattle.std.proofs.Math.Dec.{eqb_refl}
 use Rattle.grammar.specs.declared.language.Occurrence.{Occurrence}
 use Rattle.grammar.specs.Grammar.{Grammar, Rule, attributes, child, Occurs, Given, Among, is_at, arguments_in, rules_for}

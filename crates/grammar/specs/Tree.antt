@@ -1,5 +1,5 @@
 -- Trees of a language.
-use Rattle.std.specs.Prelude.{◌≡◌, ℕ, ◌<◌, List, [], ◌∷◌, ℤ, slice_index_or}
+use Rattle.std.specs.Prelude.{◌≡◌, ℕ, ◌<◌, [], ◌∷◌, ℤ, slice_index_or}
 use Rattle.grammar.specs.Grammar.{Grammar, child}
 
 -- A finite tree: nothing, or a node with its number, its production, its literal and the trees that hang at its three child places.

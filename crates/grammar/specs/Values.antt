@@ -1,5 +1,5 @@
 -- What values mean that lie in lent memory.
-use Rattle.std.specs.Prelude.{ℕ, List, [], ◌∷◌, map, slice_index_or}
+use Rattle.std.specs.Prelude.{ℕ, List, map, slice_index_or}
 
 -- the meaning of the value in row f, by what the row reads as; past the last row the blank's
 abbrev pub meaning_at : {R V M : Type 0} → (V → M) → (R → V) → M → List R → ℕ → M

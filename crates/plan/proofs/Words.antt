@@ -2,7 +2,7 @@
 use Rattle.std.proofs.Common.{◌≡◌, ℕ, zero, suc, ◌+◌, ◌-◌, ◌*◌, ◌/◌, ◌%◌, ◌^◌, ◌<◌, ◌≤◌, Bool, true, false, cond, eqb, sym, refl, ap, ◌∙◌, subst, ⊎_elim, mod-eq_of_lt, mul_assoc, mul_comm, add-one, arith, w64, Fits}
 use native.Mathlib.Nat.{div-eq_of_lt, add-mul-mod_self_left}
 use Rattle.std.proofs.lemmas.Bool.{cases_lt}
-use Rattle.std.proofs.lemmas.Nat.{pow-add, pow_pos, pow_below, shl_whole, mod_below, mul-le, field_of, mod-pow-add, shr_high}
+use Rattle.std.proofs.lemmas.Nat.{pow-add, pow_pos, shl_whole, mod_below, mul-le, field_of, mod-pow-add, shr_high}
 use Rattle.plan.specs.Scope.{entry, word, entry_declared, entry_overlaid}
 
 -- each entry is 0, 1, 2 or 3

@@ -2,7 +2,7 @@
 use Rattle.std.specs.Prelude.{ℕ, ◌%◌, Bool, true, false, ◌&&◌, ◌||◌, List, [], ◌∷◌, map, ℤ, pos, negsuc, codes, ◌==◌, nat_lt, slice_index, slice_index_or}
 use Rattle.std.specs.Int.Signed.{le_z}
 use Rattle.grammar.specs.declared.language.Occurrence.{Occurrence}
-use Rattle.grammar.specs.Grammar.{Grammar, Rule, is_at}
+use Rattle.grammar.specs.Grammar.{Grammar, is_at}
 use Rattle.grammar.specs.Text.{Segment, bytes, literal, child}
 use Rattle.plan.specs.declared.figure.PlanType.TheVariants.{Unknown, Number, Truth}
 use Rattle.plan.specs.Figures.{blank_figure}

@@ -1,5 +1,5 @@
 -- One addition to a list of bytes after another.
-use Rattle.std.proofs.Common.{◌≡◌, ℕ, List, [], ◌∷◌, ◌++◌, sym, refl, ap, ◌∙◌, append_assoc}
+use Rattle.std.proofs.Common.{◌≡◌, ℕ, List, [], ◌∷◌, ◌++◌, sym, ap, ◌∙◌, append_assoc}
 use Rattle.script.specs.Printed.{echoed}
 
 pub two_more : (xs a b one two : List ℕ) → one ≡ xs ++ a → two ≡ one ++ b → two ≡ xs ++ (a ++ b)

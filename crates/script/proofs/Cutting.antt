@@ -2,8 +2,7 @@
 use Rattle.std.proofs.Common.{◌≡◌, ℕ, zero, suc, ◌+◌, ◌-◌, ◌<◌, ◌≤◌, Bool, true, false, not, List, [], ◌∷◌, length, get_or, take, drop, sym, refl, ap, ◌∙◌, inl, inr, eq-or-lt_of_le, add-one, arith, length-drop, length-take, take_all, drop-cons}
 use native.Mathlib.Nat.{sub-zero}
 use Rattle.std.proofs.lemmas.List.{drop_all}
-use Rattle.script.specs.Words.{is_blank, is_line_feed, begun_with, pieces, filled, lines, words, belongs, Leads, FirstWord, FirstLine}
-use Rattle.script.specs.declared.words.Run.{Run}
+use Rattle.script.specs.Words.{is_blank, is_line_feed, begun_with, pieces, filled, lines, words, Leads, FirstWord, FirstLine}
 use Rattle.script.specs.declared.words.Run.TheVariants.{Blanks, Word, Line}
 
 -- every byte of the first n answers v

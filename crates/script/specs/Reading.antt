@@ -1,11 +1,8 @@
 -- Which line makes which call.
-use Rattle.std.specs.Prelude.{ℕ, Bool, true, false, List, [], ◌∷◌, codes, ◌==◌, slice_index}
+use Rattle.std.specs.Prelude.{ℕ, true, false, List, [], ◌∷◌, codes, ◌==◌, slice_index}
 use Rattle.std.specs.Str.{bytes_eq}
-use Rattle.script.specs.declared.call.LanguageName.{LanguageName}
 use Rattle.script.specs.declared.call.LanguageName.TheVariants.{Formula, Plan, Altered}
-use Rattle.script.specs.declared.call.Call.{Call}
 use Rattle.script.specs.declared.call.Call.TheVariants.{Language, Test}
-use Rattle.script.specs.declared.call.Reason.{Reason}
 use Rattle.script.specs.declared.call.Reason.TheVariants.{UnknownCall, WrongNumberOfWords, UnknownLanguage}
 use Rattle.script.specs.declared.call.Line.{Line}
 use Rattle.script.specs.declared.call.Line.TheVariants.{Passed, Made, NotRead}

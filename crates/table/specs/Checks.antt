@@ -1,5 +1,5 @@
 -- The checks of the table layer: those that every call begins with, and those that some calls add.
-use Rattle.std.specs.Prelude.{◌≡◌, ℕ, ◌*◌, ◌≤◌, List, [], ◌∷◌, ◌++◌, length}
+use Rattle.std.specs.Prelude.{ℕ, ◌*◌, ◌≤◌, List, [], ◌∷◌, ◌++◌, length}
 use Rattle.grammar.specs.Grammar.{Grammar}
 use Rattle.grammar.specs.Circularity.{Circular, Culprit}
 use Rattle.circularity.specs.declared.fault.LanguageFault.{LanguageFault}

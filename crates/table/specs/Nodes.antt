@@ -1,5 +1,5 @@
 -- Node records, and how a table of them is read.
-use Rattle.std.specs.Prelude.{◌≡◌, ℕ, ◌<◌, Bool, true, false, List, [], ◌∷◌, length, ℤ, pos, slice_index, slice_index_or}
+use Rattle.std.specs.Prelude.{◌≡◌, ℕ, ◌<◌, true, false, List, [], length, pos, slice_index, slice_index_or}
 use Rattle.table.specs.declared.node.Node.{Node}
 
 -- the number that stands for no node

@@ -1,6 +1,6 @@
 -- When the nodes of a table form a sheet: one tree under node 0, any number of clippings, and free nodes.
 -- This is about the whole table; damage anywhere is damage.
-use Rattle.std.specs.Prelude.{◌≡◌, ℕ, ◌<◌, ◌≤◌, Bool, true, false, T, ◌⊎◌, List, length, ◌≢◌}
+use Rattle.std.specs.Prelude.{◌≡◌, ℕ, ◌<◌, ◌≤◌, true, false, T, List, length, ◌≢◌}
 use Rattle.grammar.specs.Grammar.{Grammar, child}
 use Rattle.table.specs.declared.node.Node.{Node}
 use Rattle.table.specs.Nodes.{none, at, child_field, Used, Blank}

@@ -1,4 +1,4 @@
-use Rattle.std.proofs.Common.{◌≡◌, ℕ, ◌<◌, ◌≤◌, sym, ap, ◌∙◌, arith, below_more}
+use Rattle.std.proofs.Common.{sym, ap, ◌∙◌, arith, below_more}
 use Rattle.circularity.proofs.Bits.{T_true, T_false}
 use Rattle.circularity.proofs.Rounds.{saturated_passes, saturated_culprit}
 use Rattle.circularity.proofs.test.Goals as goal

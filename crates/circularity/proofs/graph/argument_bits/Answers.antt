@@ -1,4 +1,4 @@
-use Rattle.std.proofs.Common.{ℕ, sym, ap, ◌∙◌, ap₂, take_all}
+use Rattle.std.proofs.Common.{sym, ap, ◌∙◌, ap₂, take_all}
 use Rattle.std.proofs.lemmas.List.Sums.{fold_more}
 use Rattle.circularity.specs.Bits.{with_bit}
 use Rattle.circularity.specs.Working.{bits_of, vertex}

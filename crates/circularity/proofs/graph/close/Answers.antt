@@ -1,4 +1,4 @@
-use Rattle.std.proofs.Common.{◌≡◌, refl, ap, ◌∙◌, add-one}
+use Rattle.std.proofs.Common.{ap, ◌∙◌, add-one}
 use Rattle.circularity.specs.Bits.{through}
 use Rattle.circularity.proofs.graph.close.Goals as goal
 

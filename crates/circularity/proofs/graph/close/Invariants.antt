@@ -1,4 +1,4 @@
-use Rattle.std.proofs.Common.{◌≡◌, length}
+use Rattle.std.proofs.Common.{◌≡◌}
 use Rattle.circularity.specs.Bits.{closed_below}
 use Rattle.circularity.proofs.graph.close.Given as goal
 

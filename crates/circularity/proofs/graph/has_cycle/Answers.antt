@@ -1,5 +1,4 @@
-use Rattle.std.proofs.Common.{◌≡◌, ◌||◌, ap₂, add-one}
-use Rattle.circularity.specs.Working.{cyclic_below}
+use Rattle.std.proofs.Common.{◌||◌, ap₂, add-one}
 use Rattle.circularity.proofs.graph.has_cycle.Goals as goal
 
 pub loop-v-preserved : goal.loop-v-preserved

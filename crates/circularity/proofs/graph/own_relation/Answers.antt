@@ -1,4 +1,4 @@
-use Rattle.std.proofs.Common.{◌≡◌, ℕ, ◌+◌, ◌*◌, ◌%◌, ◌^◌, ◌<◌, ◌≤◌, get_or, refl, ap, ◌∙◌, ap₂, add-one, arith, rules}
+use Rattle.std.proofs.Common.{◌+◌, ◌*◌, ◌%◌, ◌^◌, ◌<◌, ◌≤◌, get_or, ap, add-one, arith, rules}
 use lib.Bits.{bit_or}
 use Rattle.std.proofs.lemmas.Nat.{mul-le, one_shl}
 use Rattle.circularity.proofs.graph.own_relation.Goals as goal

@@ -1,4 +1,4 @@
-use Rattle.std.proofs.Common.{ℕ, ◌*◌, ◌/◌, ◌%◌, ◌^◌, ◌<◌, ◌≤◌, ap, ◌∙◌, arith, rules}
+use Rattle.std.proofs.Common.{◌*◌, ◌/◌, ◌%◌, ◌^◌, ◌<◌, ◌≤◌, ap, arith, rules}
 use Rattle.std.proofs.lemmas.Nat.{mul-le, one_shl, mod_below, pow_pos}
 use Rattle.circularity.proofs.Small.{power_small}
 use Rattle.circularity.proofs.graph.relation_field.Goals as goal

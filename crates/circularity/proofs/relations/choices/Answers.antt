@@ -1,4 +1,4 @@
-use Rattle.std.proofs.Common.{◌≡◌, get_or, sym, ap, ◌∙◌, arith}
+use Rattle.std.proofs.Common.{arith}
 use Rattle.circularity.proofs.Small.{asked_choice, asked_symbol}
 use Rattle.circularity.proofs.relations.choices.Goals as goal
 

@@ -1,4 +1,4 @@
-use Rattle.std.proofs.Common.{◌≡◌, ℕ, ◌+◌, ◌≤◌, get_or, ap, ◌∙◌, add-one, arith, rules}
+use Rattle.std.proofs.Common.{◌+◌, ◌≤◌, get_or, ap, add-one, arith, rules}
 use lib.Count.{ones}
 use Rattle.std.proofs.lemmas.Nat.{ones-le}
 use Rattle.circularity.proofs.relations.count.Goals as goal

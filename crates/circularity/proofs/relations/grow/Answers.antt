@@ -1,5 +1,4 @@
-use Rattle.std.proofs.Common.{◌≡◌, ℕ, ◌<◌, length, sym, ap, ◌∙◌, arith}
-use Rattle.circularity.specs.Working.{grown}
+use Rattle.std.proofs.Common.{◌<◌, arith}
 use Rattle.circularity.proofs.Small.{own_symbol}
 use Rattle.circularity.proofs.Gathers.{grown_next}
 use Rattle.circularity.proofs.relations.grow.Goals as goal

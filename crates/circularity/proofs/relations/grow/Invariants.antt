@@ -1,4 +1,4 @@
-use Rattle.std.proofs.Common.{◌≡◌, length}
+use Rattle.std.proofs.Common.{◌≡◌}
 use Rattle.circularity.specs.Working.{grown}
 use Rattle.circularity.proofs.relations.grow.Given as goal
 

@@ -1,5 +1,5 @@
 use Rattle.std.proofs.Common.{sym, ◌∙◌, arith}
-use Rattle.circularity.specs.Working.{gathered, outcome_of, choice}
+use Rattle.circularity.specs.Working.{outcome_of, choice}
 use Rattle.circularity.proofs.Gathers.{gathered_yes, gathered_no, gathered_all}
 use Rattle.circularity.proofs.relations.over_third.Goals as goal
 use Rattle.circularity.proofs.relations.over_third.Goals.{then-has, else-has}

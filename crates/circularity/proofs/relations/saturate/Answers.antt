@@ -1,4 +1,4 @@
-use Rattle.std.proofs.Common.{◌≡◌, ℕ, suc, sym, ap, ◌∙◌}
+use Rattle.std.proofs.Common.{◌≡◌, suc, sym, ap, ◌∙◌}
 use Rattle.circularity.specs.Working.{grown, rounds}
 use Rattle.circularity.proofs.Rounds.{nearer, rounds_length}
 use Rattle.circularity.proofs.relations.saturate.Goals as goal

@@ -1,4 +1,4 @@
-use Rattle.std.proofs.Common.{◌≡◌, ℕ, ◌+◌, ◌^◌, ◌<◌, get_or, sum, sym, ◌∙◌, ap₂, arith, take_all}
+use Rattle.std.proofs.Common.{◌+◌, ◌^◌, ◌<◌, get_or, sym, ◌∙◌, ap₂, arith, take_all}
 use Rattle.std.proofs.lemmas.List.Sums.{sum_by_more}
 use Rattle.circularity.proofs.relations.total.Goals as goal
 

@@ -1,5 +1,4 @@
-use Rattle.std.proofs.Common.{ap, ◌∙◌}
-use Rattle.circularity.specs.Working.{gathered, outcome_of, choice}
+use Rattle.std.proofs.Common.{◌∙◌}
 use Rattle.circularity.proofs.Gathers.{found_from}
 use Rattle.circularity.proofs.relations.try_production.Goals as goal
 

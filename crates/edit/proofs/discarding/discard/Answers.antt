@@ -1,4 +1,4 @@
-use Rattle.std.proofs.Common.{[], ◌∷◌, ◌++◌, length, refl}
+use Rattle.std.proofs.Common.{[], ◌∷◌, ◌++◌, length}
 use Rattle.table.specs.Checks.{beginning, long_enough}
 use Rattle.table.specs.Refusals.{lifted}
 use Rattle.edit.specs.declared.fault.EditFault.TheVariants.{Table}
