@@ -3,7 +3,6 @@ use Rattle.std.proofs.Common.{◌≡◌, ℕ, zero, suc, ◌+◌, ◌-◌, ◌<�
 use native.Mathlib.Nat.{sub-zero}
 use Rattle.std.proofs.lemmas.List.{drop_all}
 use Rattle.calls.specs.Words.{is_blank, is_line_feed, begun_with, pieces, filled, lines, words, Leads, FirstWord, FirstLine}
-use Rattle.calls.specs.declared.words.Run.{Run}
 use Rattle.calls.specs.declared.words.Run.TheVariants.{Blanks, Word, Line}
 
 -- every byte of the first n answers v

@@ -6,7 +6,6 @@ use Rattle.calls.specs.declared.call.MemoryCall.{MemoryCall}
 use Rattle.calls.specs.declared.call.MemoryCall.TheVariants.{Nodes, Values, Record, Row, Dump}
 use Rattle.calls.specs.declared.call.Reason.{Reason}
 use Rattle.calls.specs.declared.call.Reason.TheVariants.{UnknownCall, UnknownValue}
-use Rattle.calls.specs.declared.call.RowWord.{RowWord}
 use Rattle.calls.specs.declared.call.RowWord.TheVariants.{Value, Unlawful}
 use Rattle.calls.specs.declared.call.Shown.{Shown}
 use Rattle.calls.specs.declared.call.Shown.TheVariants.{Number, Trouble, Scope, TypeOf, Count}

@@ -1,11 +1,9 @@
 -- Which line makes which call.
 use Rattle.std.specs.Prelude.{ℕ, true, false, List, [], ◌∷◌, Ok, Err, codes, Result, ◌==◌, slice_index}
 use Rattle.std.specs.Str.{bytes_eq}
-use Rattle.calls.specs.declared.call.LanguageName.{LanguageName}
 use Rattle.calls.specs.declared.call.LanguageName.TheVariants.{Formula, Plan, Altered}
 use Rattle.calls.specs.declared.call.Call.{Call}
 use Rattle.calls.specs.declared.call.Call.TheVariants.{Language, Test, Make, Memory}
-use Rattle.calls.specs.declared.call.MemoryCall.{MemoryCall}
 use Rattle.calls.specs.declared.call.MemoryCall.TheVariants as memory
 use Rattle.calls.specs.declared.call.Program.{Program}
 use Rattle.calls.specs.declared.call.Program.TheVariants.{Editor, Probe}

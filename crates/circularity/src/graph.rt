@@ -65,7 +65,7 @@ fn argument_bits(arguments: &[Occurrence]) -> u16
 
 // The edges from an attribute of the production's own symbol: to the arguments of its rule, if it is synthesized.
 fn parent_edges<L: Language>(language: &L, production: u8, attribute: u8) -> u16
-    ensures { result ≡ parent_row (grammar language.now) production attribute }
+    ensures { result ≡ parent_row (L.grammar language.now) production attribute }
 {
     let symbol = language.symbol(production);
     let inherited = language.inherited(symbol);
@@ -102,8 +102,8 @@ fn child_edges<L: Language>(
     k: u8,
     attribute: u8,
 ) -> u16
-    requires { (production < (grammar language.now).productions) × ((k < 3) × (attribute < 4)) }
-    ensures { result ≡ child_row (grammar language.now) production choice k attribute }
+    requires { (production < (L.grammar language.now).productions) × ((k < 3) × (attribute < 4)) }
+    ensures { result ≡ child_row (L.grammar language.now) production choice k attribute }
 {
     let children = language.children(production);
     if k as usize >= children.len() {
@@ -129,8 +129,8 @@ fn child_edges<L: Language>(
 
 // The local graph of a production.
 fn local_rows<L: Language>(language: &L, production: u8, choice: Choice) -> [u16; 16]
-    requires { production < (grammar language.now).productions }
-    ensures { result ≡ rows_of (grammar language.now) production choice }
+    requires { production < (L.grammar language.now).productions }
+    ensures { result ≡ rows_of (L.grammar language.now) production choice }
 {
     let mut rows = [0u16; 16];
     for v in 0..16u8 {
@@ -201,8 +201,8 @@ fn own_relation(rows: &[u16], h: u8, s: u8) -> u16
 
 // What one choice of the children's relations gives.
 pub(crate) fn work_out<L: Language>(language: &L, production: u8, choice: Choice) -> Outcome
-    requires { production < (grammar language.now).productions }
-    ensures { result ≡ outcome_of (grammar language.now) production choice }
+    requires { production < (L.grammar language.now).productions }
+    ensures { result ≡ outcome_of (L.grammar language.now) production choice }
 {
     let mut rows = local_rows(language, production, choice);
     close(&mut rows);

@@ -1,4 +1,6 @@
 // Knuth's test of circularity, for every language behind the interface.
+#![tactic(auto)]
+
 ghost use Rattle.circularity.specs.Verdict.{Verdict, VerdictLaws};
 
 pub mod fault;
@@ -19,7 +21,7 @@ pub struct Passes {
 // with a cycle through one of the root's own rules. All relations are found first, whether there is a cycle or not; then the
 // productions are tried in turn.
 pub fn test<L: Language>(language: &L) -> Result<Passes, LanguageFault>
-    ensures { Verdict (grammar language.now) result }
+    ensures { Verdict (L.grammar language.now) result }
 {
     let masks = saturate(language);
     for production in 0..language.productions() {

@@ -24,8 +24,8 @@ impl Outcome {
 
 // The relations to choose from at child place k; the empty one alone where there is no child.
 fn choices<L: Language>(language: &L, production: u8, masks: &[u16], k: u8) -> u16
-    requires { (production < (grammar language.now).productions) × (length masks.now ≡ 16) }
-    ensures { result ≡ choices_at (grammar language.now) production masks.now k }
+    requires { (production < (L.grammar language.now).productions) × (length masks.now ≡ 16) }
+    ensures { result ≡ choices_at (L.grammar language.now) production masks.now k }
 {
     let children = language.children(production);
     if k as usize >= children.len() {
@@ -42,8 +42,8 @@ fn over_third<L: Language>(
     second: u16,
     thirds: u16,
 ) -> Outcome
-    requires { production < (grammar language.now).productions }
-    ensures { result ≡ gathered (λ z. outcome_of (grammar language.now) production (choice first second z)) thirds 16 }
+    requires { production < (L.grammar language.now).productions }
+    ensures { result ≡ gathered (λ z. outcome_of (L.grammar language.now) production (choice first second z)) thirds 16 }
 {
     let mut found = Outcome::NOTHING;
     for third in 0..16u16 {
@@ -67,8 +67,8 @@ fn over_second<L: Language>(
     seconds: u16,
     thirds: u16,
 ) -> Outcome
-    requires { production < (grammar language.now).productions }
-    ensures { result ≡ gathered (λ y. gathered (λ z. outcome_of (grammar language.now) production (choice first y z)) thirds 16) seconds 16 }
+    requires { production < (L.grammar language.now).productions }
+    ensures { result ≡ gathered (λ y. gathered (λ z. outcome_of (L.grammar language.now) production (choice first y z)) thirds 16) seconds 16 }
 {
     let mut found = Outcome::NOTHING;
     for second in 0..16u16 {
@@ -87,8 +87,8 @@ fn over_first<L: Language>(
     seconds: u16,
     thirds: u16,
 ) -> Outcome
-    requires { production < (grammar language.now).productions }
-    ensures { result ≡ gathered (λ x. gathered (λ y. gathered (λ z. outcome_of (grammar language.now) production (choice x y z)) thirds 16) seconds 16) firsts 16 }
+    requires { production < (L.grammar language.now).productions }
+    ensures { result ≡ gathered (λ x. gathered (λ y. gathered (λ z. outcome_of (L.grammar language.now) production (choice x y z)) thirds 16) seconds 16) firsts 16 }
 {
     let mut found = Outcome::NOTHING;
     for first in 0..16u16 {
@@ -101,8 +101,8 @@ fn over_first<L: Language>(
 
 // What a production gives with the relations found so far.
 pub(crate) fn try_production<L: Language>(language: &L, production: u8, masks: &[u16]) -> Outcome
-    requires { (production < (grammar language.now).productions) × (length masks.now ≡ 16) }
-    ensures { result ≡ found_by (grammar language.now) production masks.now }
+    requires { (production < (L.grammar language.now).productions) × (length masks.now ≡ 16) }
+    ensures { result ≡ found_by (L.grammar language.now) production masks.now }
 {
     let firsts = choices(language, production, masks, 0);
     let seconds = choices(language, production, masks, 1);
@@ -113,7 +113,7 @@ pub(crate) fn try_production<L: Language>(language: &L, production: u8, masks: &
 // One round: each production in turn adds what it gives to the set of its symbol.
 fn grow<L: Language>(language: &L, masks: &mut [u16])
     requires { length masks.old ≡ 16 }
-    ensures { masks.new ≡ grown (grammar language.now) (grammar language.now).productions masks.old }
+    ensures { masks.new ≡ grown (L.grammar language.now) (L.grammar language.now).productions masks.old }
 {
     for production in 0..language.productions() {
         let found = try_production(language, production, masks);
@@ -136,7 +136,7 @@ fn total(masks: &[u16]) -> u32
 // The relations of each symbol's trees.
 pub(crate) fn saturate<L: Language>(language: &L) -> [u16; 16]
     ensures many { length result ≡ 16 }
-    ensures saturated { Saturated (grammar language.now) result }
+    ensures saturated { Saturated (L.grammar language.now) result }
 {
     let mut masks = [0u16; 16];
     loop {
@@ -151,7 +151,7 @@ pub(crate) fn saturate<L: Language>(language: &L) -> [u16; 16]
 // How many relations the sets of all symbols have.
 pub(crate) fn count<L: Language>(language: &L, masks: &[u16]) -> u16
     requires { length masks.now ≡ 16 }
-    ensures { result ≡ counted masks.now (grammar language.now).symbols }
+    ensures { result ≡ counted masks.now (L.grammar language.now).symbols }
 {
     let mut count = 0u32;
     for symbol in 0..language.symbols() {

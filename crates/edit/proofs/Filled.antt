@@ -4,7 +4,6 @@ use Rattle.grammar.specs.Grammar.{Grammar, child}
 use Rattle.grammar.specs.Limits.{Limits}
 use Rattle.grammar.specs.Text.{Segment}
 use Rattle.grammar.specs.Tree.{Tree, node}
-use Rattle.grammar.specs.Tree
 use Rattle.table.specs.declared.node.Node.{Node}
 use Rattle.table.specs.Nodes.{none, at, child_field, Used}
 use Rattle.table.specs.Climbing.{OnSheet}

@@ -2,9 +2,8 @@
 use Rattle.std.specs.Prelude.{◌≡◌, ℕ, ◌*◌, List, [], ◌∷◌, length, ℤ, pos, Ok, Err, Result, ◌≢◌, slice_index_or}
 use Rattle.grammar.specs.Grammar.{Grammar}
 use Rattle.grammar.specs.Tree.{Tree, node}
-use Rattle.grammar.specs.Tree
 use Rattle.table.specs.declared.node.Node.{Node}
-use Rattle.table.specs.Nodes.{none, at}
+use Rattle.table.specs.Nodes.{at}
 use Rattle.table.specs.Sheets.{Sheet, ClippingRoot}
 use Rattle.table.specs.Represents.{Represents, replace}
 use Rattle.table.specs.Refusals.{Check, Met, First}

@@ -16,7 +16,7 @@ pub fn check_at_node<L: Language>(
     values: usize,
     n: u16,
 ) -> Result<(), EditFault>
-    ensures { Answer (at_a_node (grammar language.now) nodes.now values n) result }
+    ensures { Answer (at_a_node (L.grammar language.now) nodes.now values n) result }
 {
     begin(language, nodes, values)?;
     check_on_sheet(nodes, n)?;
@@ -31,7 +31,7 @@ pub(crate) fn check_retype<L: Language>(
     n: u16,
     literal: i32,
 ) -> Result<(), EditFault>
-    ensures { Answer (retype_checks (grammar language.now) nodes.now values n literal) result }
+    ensures { Answer (retype_checks (L.grammar language.now) nodes.now values n literal) result }
 {
     check_at_node(language, nodes, values, n)?;
     if !language.accepts(nodes[n as usize].production, literal) {
@@ -42,7 +42,7 @@ pub(crate) fn check_retype<L: Language>(
 
 // Whether a production exists, is no hole and is of another production's symbol.
 fn is_fitting<L: Language>(language: &L, other: u8, production: u8) -> bool
-    ensures { MatchBool result (Fitting (grammar language.now) other production) (Fitting (grammar language.now) other production → ⊥) }
+    ensures { MatchBool result (Fitting (L.grammar language.now) other production) (Fitting (L.grammar language.now) other production → ⊥) }
 {
     if production >= language.productions() {
         return false;
@@ -62,7 +62,7 @@ fn check_production<L: Language>(
     production: u8,
     literal: i32,
 ) -> Result<(), EditFault>
-    ensures { Answer (insert_checks_but_free (grammar language.now) nodes.now values n production literal) result }
+    ensures { Answer (insert_checks_but_free (L.grammar language.now) nodes.now values n production literal) result }
 {
     check_at_node(language, nodes, values, n)?;
     let old = nodes[n as usize].production;
@@ -87,7 +87,7 @@ pub(crate) fn check_insert<L: Language>(
     production: u8,
     literal: i32,
 ) -> Result<[u16; 3], EditFault>
-    ensures { MatchResult result (λ fields. Met (insert_checks (grammar language.now) nodes.now values n production literal) × NewNodes nodes.now (length ((grammar language.now).children production)) fields) (First (insert_checks (grammar language.now) nodes.now values n production literal)) }
+    ensures { MatchResult result (λ fields. Met (insert_checks (L.grammar language.now) nodes.now values n production literal) × NewNodes nodes.now (length ((L.grammar language.now).children production)) fields) (First (insert_checks (L.grammar language.now) nodes.now values n production literal)) }
 {
     check_production(language, nodes, values, n, production, literal)?;
     match new_nodes(nodes, language.children(production).len()) {

@@ -63,7 +63,7 @@ pub fn insert<L: Language>(
     production: u8,
     literal: i32,
 ) -> Result<(), EditFault>
-    ensures { InsertCall (grammar language.now) (λ row. L.Value.Figure.means (L.Value.Figure.reads row)) L.Value.Figure.nothing nodes.old values.old nodes.new values.new n production literal result }
+    ensures { InsertCall (L.grammar language.now) (λ row. L.Value.Figure.means (L.Value.Figure.reads row)) L.Value.Figure.nothing nodes.old values.old nodes.new values.new n production literal result }
 {
     let at = check_insert(language, nodes, values.len(), n, production, literal)?;
     let symbols = language.children(production);

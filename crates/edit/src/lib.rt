@@ -1,4 +1,6 @@
 // What the calls that change a sheet do to records and rows: make, insert and retype, and what the other edits share with them.
+#![tactic(auto)]
+
 pub mod checks;
 pub mod fault;
 pub mod fresh;

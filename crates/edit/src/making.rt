@@ -21,8 +21,8 @@ fn free_all(nodes: &mut [Node])
 
 // Puts holes for the children of production 0 at the highest numbers. Answers the child fields.
 fn put_holes<L: Language>(language: &L, nodes: &mut [Node]) -> [u16; 3]
-    requires { (length nodes.old ≤ 1000) × (length ((grammar language.now).children 0) < length nodes.old) }
-    ensures { HolesPut (grammar language.now) (length ((grammar language.now).children 0)) nodes.old nodes.new result }
+    requires { (length nodes.old ≤ 1000) × (length ((L.grammar language.now).children 0) < length nodes.old) }
+    ensures { HolesPut (L.grammar language.now) (length ((L.grammar language.now).children 0)) nodes.old nodes.new result }
 {
     let symbols = language.children(0);
     let mut children = [NONE, NONE, NONE];
@@ -36,8 +36,8 @@ fn put_holes<L: Language>(language: &L, nodes: &mut [Node]) -> [u16; 3]
 
 // Puts down node 0 over holes, in a table of free nodes.
 fn put_start<L: Language>(language: &L, nodes: &mut [Node])
-    requires { (length nodes.old ≤ 1000) × ((length ((grammar language.now).children 0) < length nodes.old) × (FreeTo (length nodes.old) nodes.old)) }
-    ensures { Made (grammar language.now) (length nodes.old) nodes.new }
+    requires { (length nodes.old ≤ 1000) × ((length ((L.grammar language.now).children 0) < length nodes.old) × (FreeTo (length nodes.old) nodes.old)) }
+    ensures { Made (L.grammar language.now) (length nodes.old) nodes.new }
 {
     let children = put_holes(language, nodes);
     nodes[0] = Node {
@@ -55,7 +55,7 @@ pub fn make<L: Language>(
     nodes: &mut [Node],
     values: &mut [L::Row],
 ) -> Result<(), EditFault>
-    ensures { MakeCall (grammar language.now) (λ row. L.Value.Figure.means (L.Value.Figure.reads row)) L.Value.Figure.nothing nodes.old values.old nodes.new values.new result }
+    ensures { MakeCall (L.grammar language.now) (λ row. L.Value.Figure.means (L.Value.Figure.reads row)) L.Value.Figure.nothing nodes.old values.old nodes.new values.new result }
 {
     check_memory(language, nodes.len(), values.len())?;
     if nodes.len() <= language.children(0).len() {

@@ -25,7 +25,7 @@ pub fn retype<L: Language>(
     n: u16,
     literal: i32,
 ) -> Result<(), EditFault>
-    ensures { RetypeCall (grammar language.now) (λ row. L.Value.Figure.means (L.Value.Figure.reads row)) L.Value.Figure.nothing nodes.old values.old nodes.new values.new n literal result }
+    ensures { RetypeCall (L.grammar language.now) (λ row. L.Value.Figure.means (L.Value.Figure.reads row)) L.Value.Figure.nothing nodes.old values.old nodes.new values.new n literal result }
 {
     check_retype(language, nodes, values.len(), n, literal)?;
     set_literal(nodes, n, literal);

@@ -30,14 +30,14 @@ pub on_plan : (before : Session) (name : LanguageName) (owned : Owned PlanRow) �
     → Chosen before name Done (OnPlan owned)
 on_plan before name owned e f empty = rw (e, f) (refl, (owned, empty, refl))
 
-module _ {R M : Type 0} (g : Grammar) (meaning : R → M) (nothing : M) (nodes : ℕ) (before blank IfOk : Owned R) (answer : Answer) where
+module _ {R M : Type 0} (g : Grammar) (meaning : R → M) (nothing : M) (nodes : ℕ) (before blank made : Owned R) (answer : Answer) where
   -- an accepted make, and a refused one
   pub accepted : (handle : Open) → before.held ≡ NoSheet → BlankMemory meaning nothing nodes blank → MakeAnswered g meaning nothing blank answer made
-      → IfOk.held ≡ OpenSheet handle → MadeFirst g meaning nothing nodes before answer made
+      → made.held ≡ OpenSheet handle → MadeFirst g meaning nothing nodes before answer made
   accepted handle none lent did e = rw none (record { blank = blank; made = made; lent = lent; did = did; kept = rw e })
 
   pub refused : before.held ≡ NoSheet → BlankMemory meaning nothing nodes blank → MakeAnswered g meaning nothing blank answer made
-      → IfOk.held ≡ NoSheet → MadeFirst g meaning nothing nodes before answer before
+      → made.held ≡ NoSheet → MadeFirst g meaning nothing nodes before answer before
   refused none lent did e = rw none (record { blank = blank; made = made; lent = lent; did = did; kept = rw e })
 
 -- make in a session on a language

@@ -1,4 +1,6 @@
 // The editor: reads a script from standard input, and prints one line for each of its calls.
+#![tactic(auto)]
+
 mod making;
 mod session;
 

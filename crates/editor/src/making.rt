@@ -15,7 +15,7 @@ pub fn make_first<L: Language>(
     owned: &mut Owned<L::Row>,
     nodes: u16,
 ) -> Result<Answer, AllocError>
-    ensures { IfOk result (λ answer. MadeFirst (grammar language.now) (λ row. L.Value.Figure.means (L.Value.Figure.reads row)) L.Value.Figure.nothing nodes owned.old answer owned.new) }
+    ensures { IfOk result (λ answer. MadeFirst (L.grammar language.now) (λ row. L.Value.Figure.means (L.Value.Figure.reads row)) L.Value.Figure.nothing nodes owned.old answer owned.new) }
 {
     if let Held::OpenSheet(_) = owned.held {
         return Ok(Answer::NotAccepted(Reason::SheetMade));

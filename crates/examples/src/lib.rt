@@ -1,4 +1,6 @@
 // The worked examples as theorems, in one table on one contract.
+#![tactic(auto)]
+
 ghost use Rattle.examples.specs.Table.{Examples};
 ghost use Rattle.formula.specs.contracts.language.FormulaLanguage.TheImpl.{ghosts as formula_members};
 ghost use Rattle.plan.specs.contracts.language.PlanLanguage.TheImpl.{ghosts as plan_members};

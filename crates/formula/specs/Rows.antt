@@ -6,7 +6,6 @@ use Rattle.formula.specs.declared.quantity.Quantity.{Quantity}
 use Rattle.formula.specs.declared.quantity.row.QuantityRow.{QuantityRow}
 use Rattle.formula.specs.declared.reading.Reading.{Reading}
 use Rattle.formula.specs.declared.reading.Reading.TheVariants.{Number, Troubled}
-use Rattle.formula.specs.declared.reading.Trouble.{Trouble}
 use Rattle.formula.specs.Readings.{lawful, blank, numbered_trouble}
 
 -- what a figure says is its meaning

@@ -1,4 +1,6 @@
 // Price formulas: a language of sums, differences, products, quotients, choices and bindings, behind the interface of languages.
+#![tactic(auto)]
+
 pub mod language;
 pub mod meaning;
 mod operation;

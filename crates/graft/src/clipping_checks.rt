@@ -15,7 +15,7 @@ fn check_with_clipping<L: Language>(
     root: u16,
     n: u16,
 ) -> Result<(), EditFault>
-    ensures { Answer (with_a_clipping (grammar language.now) nodes.now values root n) result }
+    ensures { Answer (with_a_clipping (L.grammar language.now) nodes.now values root n) result }
 {
     begin(language, nodes, values)?;
     if !is_clipping_root(nodes, root) {
@@ -32,7 +32,7 @@ pub(crate) fn check_no_hole<L: Language>(
     n: u16,
 ) -> Result<(), EditFault>
     requires { n < length nodes.now }
-    ensures { Answer (no_hole_at (grammar language.now) nodes.now n ∷ []) result }
+    ensures { Answer (no_hole_at (L.grammar language.now) nodes.now n ∷ []) result }
 {
     if n == 0 {
         return Err(EditFault::WrongPlace(n));
@@ -46,7 +46,7 @@ pub(crate) fn check_no_hole<L: Language>(
 // Refuses a node that is no hole.
 fn check_hole<L: Language>(language: &L, nodes: &[Node], n: u16) -> Result<(), EditFault>
     requires { n < length nodes.now }
-    ensures { Answer (hole_at (grammar language.now) nodes.now n ∷ []) result }
+    ensures { Answer (hole_at (L.grammar language.now) nodes.now n ∷ []) result }
 {
     if !is_hole(language, nodes[n as usize].production) {
         return Err(EditFault::WrongPlace(n));
@@ -62,7 +62,7 @@ fn check_symbol<L: Language>(
     n: u16,
 ) -> Result<(), EditFault>
     requires { (root < length nodes.now) × (n < length nodes.now) }
-    ensures { Answer (same_symbol (grammar language.now) nodes.now root n ∷ []) result }
+    ensures { Answer (same_symbol (L.grammar language.now) nodes.now root n ∷ []) result }
 {
     if language.symbol(nodes[root as usize].production)
         != language.symbol(nodes[n as usize].production)
@@ -80,7 +80,7 @@ pub(crate) fn check_exchange<L: Language>(
     root: u16,
     n: u16,
 ) -> Result<(), EditFault>
-    ensures { Answer (exchange_checks (grammar language.now) nodes.now values root n) result }
+    ensures { Answer (exchange_checks (L.grammar language.now) nodes.now values root n) result }
 {
     check_with_clipping(language, nodes, values, root, n)?;
     check_no_hole(language, nodes, n)?;
@@ -96,7 +96,7 @@ pub(crate) fn check_paste<L: Language>(
     root: u16,
     n: u16,
 ) -> Result<(), EditFault>
-    ensures { Answer (paste_checks (grammar language.now) nodes.now values root n) result }
+    ensures { Answer (paste_checks (L.grammar language.now) nodes.now values root n) result }
 {
     check_with_clipping(language, nodes, values, root, n)?;
     check_hole(language, nodes, n)?;

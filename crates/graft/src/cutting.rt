@@ -21,7 +21,7 @@ fn check_cut<L: Language>(
     values: usize,
     n: u16,
 ) -> Result<u16, EditFault>
-    ensures { MatchResult result (λ hole. Met (cut_checks (grammar language.now) nodes.now values n) × NextFree nodes.now (length nodes.now) hole) (First (cut_checks (grammar language.now) nodes.now values n)) }
+    ensures { MatchResult result (λ hole. Met (cut_checks (L.grammar language.now) nodes.now values n) × NextFree nodes.now (length nodes.now) hole) (First (cut_checks (L.grammar language.now) nodes.now values n)) }
 {
     check_at_node(language, nodes, values, n)?;
     check_no_hole(language, nodes, n)?;
@@ -38,7 +38,7 @@ pub fn cut<L: Language>(
     values: &mut [L::Row],
     node: u16,
 ) -> Result<u16, EditFault>
-    ensures { CutCall (grammar language.now) (λ row. L.Value.Figure.means (L.Value.Figure.reads row)) L.Value.Figure.nothing nodes.old values.old nodes.new values.new node result }
+    ensures { CutCall (L.grammar language.now) (λ row. L.Value.Figure.means (L.Value.Figure.reads row)) L.Value.Figure.nothing nodes.old values.old nodes.new values.new node result }
 {
     let hole = check_cut(language, nodes, values.len(), node)?;
     let symbol = language.symbol(nodes[node as usize].production);

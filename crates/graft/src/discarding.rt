@@ -47,7 +47,7 @@ pub fn discard<L: Language>(
     root: u16,
     waiting: &mut [u16],
 ) -> Result<(), EditFault>
-    ensures { DiscardCall (grammar language.now) (λ row. L.Value.Figure.means (L.Value.Figure.reads row)) L.Value.Figure.nothing nodes.old values.now nodes.new values.now root waiting.old waiting.new result }
+    ensures { DiscardCall (L.grammar language.now) (λ row. L.Value.Figure.means (L.Value.Figure.reads row)) L.Value.Figure.nothing nodes.old values.now nodes.new values.now root waiting.old waiting.new result }
 {
     begin(language, nodes, values.len())?;
     check_buffer(waiting.len(), nodes.len())?;

@@ -14,7 +14,7 @@ pub fn exchange<L: Language>(
     root: u16,
     node: u16,
 ) -> Result<(), EditFault>
-    ensures { ExchangeCall (grammar language.now) (λ row. L.Value.Figure.means (L.Value.Figure.reads row)) L.Value.Figure.nothing nodes.old values.old nodes.new values.new root node result }
+    ensures { ExchangeCall (L.grammar language.now) (λ row. L.Value.Figure.means (L.Value.Figure.reads row)) L.Value.Figure.nothing nodes.old values.old nodes.new values.new root node result }
 {
     check_exchange(language, nodes, values.len(), root, node)?;
     hang(nodes, root, node);

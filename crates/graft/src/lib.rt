@@ -1,4 +1,6 @@
 // What the calls that move whole subtrees do to records and rows: cut, paste, exchange and discard.
+#![tactic(auto)]
+
 mod clipping_checks;
 mod cutting;
 mod discarding;

@@ -14,7 +14,7 @@ pub fn paste<L: Language>(
     root: u16,
     node: u16,
 ) -> Result<(), EditFault>
-    ensures { PasteCall (grammar language.now) (λ row. L.Value.Figure.means (L.Value.Figure.reads row)) L.Value.Figure.nothing nodes.old values.old nodes.new values.new root node result }
+    ensures { PasteCall (L.grammar language.now) (λ row. L.Value.Figure.means (L.Value.Figure.reads row)) L.Value.Figure.nothing nodes.old values.old nodes.new values.new root node result }
 {
     check_paste(language, nodes, values.len(), root, node)?;
     hang(nodes, root, node);

@@ -1,4 +1,6 @@
 // The interface that every language stands behind: what a figure is, what a language is, and how a rule gets its arguments.
+#![tactic(auto)]
+
 pub mod figure;
 pub mod language;
 

@@ -1,4 +1,6 @@
 // Memory: the records and values that a session owns and lends to calls, and the handle of the sheet that was made of them.
+#![tactic(auto)]
+
 pub mod lending;
 pub mod making;
 pub mod overwriting;

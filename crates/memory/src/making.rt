@@ -7,7 +7,7 @@ use script::answer::Answer;
 
 // Makes a sheet of the memory as it is. An accepted make gives up the sheet before, and a refused one leaves everything as it was.
 pub fn make<L: Language>(language: &L, owned: &mut Owned<L::Row>) -> Answer
-    ensures { MakeAnswered (grammar language.now) (λ row. L.Value.Figure.means (L.Value.Figure.reads row)) L.Value.Figure.nothing owned.old result owned.new }
+    ensures { MakeAnswered (L.grammar language.now) (λ row. L.Value.Figure.means (L.Value.Figure.reads row)) L.Value.Figure.nothing owned.old result owned.new }
 {
     match sheet::make(language, &mut owned.nodes, &mut owned.values) {
         Ok(made) => {

@@ -4,9 +4,7 @@ use Rattle.std.specs.Prelude.{◌≡◌, ℕ, zero, suc, ◌<◌}
 use Rattle.plan.specs.declared.figure.PlanType.{PlanType}
 use Rattle.plan.specs.declared.figure.PlanType.TheVariants.{Unknown, Number, Truth}
 use Rattle.plan.specs.declared.figure.PlanFigure.{PlanFigure}
-use Rattle.plan.specs.declared.figure.PlanFigure.TheVariants
 use Rattle.plan.specs.declared.figure.PlanRow.{PlanRow}
-use Rattle.plan.specs.declared.figure.PlanRow.TheVariants as row
 
 -- the types by their numbers
 abbrev pub number_of_type : PlanType → ℕ

@@ -1,4 +1,6 @@
 // The language of session plans, and the altered plan, behind the interface of every language.
+#![tactic(auto)]
+
 pub mod altered;
 mod arguments;
 pub mod figure;

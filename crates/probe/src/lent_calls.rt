@@ -15,7 +15,7 @@ pub fn make_sized<L: Language>(
     owned: &mut Owned<L::Row>,
     nodes: u16,
 ) -> Result<Answer, AllocError>
-    ensures { IfOk result (λ answer. MadeSized (grammar language.now) (λ row. L.Value.Figure.means (L.Value.Figure.reads row)) L.Value.Figure.nothing nodes owned.old answer owned.new) }
+    ensures { IfOk result (λ answer. MadeSized (L.grammar language.now) (λ row. L.Value.Figure.means (L.Value.Figure.reads row)) L.Value.Figure.nothing nodes owned.old answer owned.new) }
 {
     lend_nodes(&mut owned.nodes, nodes as usize)?;
     lend_values::<L>(&mut owned.values, 4 * nodes as usize)?;
@@ -28,7 +28,7 @@ pub fn on_memory<R: WrittenRow, L: Language<Row = R>>(
     owned: &mut Owned<R>,
     call: MemoryCall,
 ) -> Result<Answer, AllocError>
-    ensures { IfOk result (λ answer. OnMemory (grammar language.now) (λ row. L.Value.Figure.means (L.Value.Figure.reads row)) L.Value.Figure.nothing R.WrittenRow.stores call owned.old answer owned.new) }
+    ensures { IfOk result (λ answer. OnMemory (L.grammar language.now) (λ row. L.Value.Figure.means (L.Value.Figure.reads row)) L.Value.Figure.nothing R.WrittenRow.stores call owned.old answer owned.new) }
 {
     match call {
         MemoryCall::Make => Ok(make(language, owned)),

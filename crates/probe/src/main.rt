@@ -1,4 +1,6 @@
 // The probe: reads a script from standard input, and prints one line for each of its calls.
+#![tactic(auto)]
+
 mod lent_calls;
 mod session;
 

@@ -1,5 +1,7 @@
 // Tries every refusal of every call that changes a sheet, and an accepted run of each, and prints a line for each trial.
 // A heading says what memory is lent; a line says what was called on it, the answer, and how many records and values differ after it.
+#![tactic(auto)]
+
 mod cases;
 mod damage;
 mod line;

@@ -1,4 +1,6 @@
 // Rows as scripts write them and as they are printed, and the dump of the memory that is lent.
+#![tactic(auto)]
+
 pub mod dumping;
 pub mod kinds;
 pub mod putting;

@@ -13,7 +13,7 @@ pub fn make<L: Language>(
     nodes: &mut [Node],
     values: &mut [L::Row],
 ) -> Result<Made, EditFault>
-    ensures { MakeHandled (grammar language.now) (λ row. L.Value.Figure.means (L.Value.Figure.reads row)) L.Value.Figure.nothing nodes.old values.old nodes.new values.new result }
+    ensures { MakeHandled (L.grammar language.now) (λ row. L.Value.Figure.means (L.Value.Figure.reads row)) L.Value.Figure.nothing nodes.old values.old nodes.new values.new result }
 {
     match edit::make(language, nodes, values) {
         Ok(()) => Ok(Made {
@@ -36,7 +36,7 @@ pub fn insert<L: Language>(
     production: u8,
     literal: i32,
 ) -> Result<Inserted, Refused>
-    ensures { InsertHandled (grammar language.now) (λ row. L.Value.Figure.means (L.Value.Figure.reads row)) L.Value.Figure.nothing nodes.old values.old nodes.new values.new node production literal result }
+    ensures { InsertHandled (L.grammar language.now) (λ row. L.Value.Figure.means (L.Value.Figure.reads row)) L.Value.Figure.nothing nodes.old values.old nodes.new values.new node production literal result }
 {
     match edit::insert(language, nodes, values, node, production, literal) {
         Ok(()) => Ok(Inserted {
@@ -58,7 +58,7 @@ pub fn retype<L: Language>(
     node: u16,
     literal: i32,
 ) -> Result<Retyped, Refused>
-    ensures { RetypeHandled (grammar language.now) (λ row. L.Value.Figure.means (L.Value.Figure.reads row)) L.Value.Figure.nothing nodes.old values.old nodes.new values.new node literal result }
+    ensures { RetypeHandled (L.grammar language.now) (λ row. L.Value.Figure.means (L.Value.Figure.reads row)) L.Value.Figure.nothing nodes.old values.old nodes.new values.new node literal result }
 {
     match edit::retype(language, nodes, values, node, literal) {
         Ok(()) => Ok(Retyped {

@@ -15,7 +15,7 @@ pub fn cut<L: Language>(
     sheet: Settled,
     node: u16,
 ) -> Result<CutOut, Refused>
-    ensures { CutHandled (grammar language.now) (λ row. L.Value.Figure.means (L.Value.Figure.reads row)) L.Value.Figure.nothing nodes.old values.old nodes.new values.new node result }
+    ensures { CutHandled (L.grammar language.now) (λ row. L.Value.Figure.means (L.Value.Figure.reads row)) L.Value.Figure.nothing nodes.old values.old nodes.new values.new node result }
 {
     match graft::cut(language, nodes, values, node) {
         Ok(hole) => Ok(CutOut {
@@ -38,7 +38,7 @@ pub fn paste<L: Language>(
     clipping: Clipping,
     node: u16,
 ) -> Result<Pasted, RefusedWithClipping>
-    ensures { PasteHandled (grammar language.now) (λ row. L.Value.Figure.means (L.Value.Figure.reads row)) L.Value.Figure.nothing nodes.old values.old nodes.new values.new clipping node result }
+    ensures { PasteHandled (L.grammar language.now) (λ row. L.Value.Figure.means (L.Value.Figure.reads row)) L.Value.Figure.nothing nodes.old values.old nodes.new values.new clipping node result }
 {
     match graft::paste(language, nodes, values, clipping.root, node) {
         Ok(()) => {
@@ -66,7 +66,7 @@ pub fn exchange<L: Language>(
     clipping: Clipping,
     node: u16,
 ) -> Result<Exchanged, RefusedWithClipping>
-    ensures { ExchangeHandled (grammar language.now) (λ row. L.Value.Figure.means (L.Value.Figure.reads row)) L.Value.Figure.nothing nodes.old values.old nodes.new values.new clipping node result }
+    ensures { ExchangeHandled (L.grammar language.now) (λ row. L.Value.Figure.means (L.Value.Figure.reads row)) L.Value.Figure.nothing nodes.old values.old nodes.new values.new clipping node result }
 {
     match graft::exchange(language, nodes, values, clipping.root, node) {
         Ok(()) => {
@@ -98,7 +98,7 @@ pub fn discard<L: Language>(
     clipping: Clipping,
     waiting: &mut [u16],
 ) -> Result<Discarded, EditFault>
-    ensures { DiscardHandled (grammar language.now) (λ row. L.Value.Figure.means (L.Value.Figure.reads row)) L.Value.Figure.nothing nodes.old values.now nodes.new values.now clipping waiting.old waiting.new result }
+    ensures { DiscardHandled (L.grammar language.now) (λ row. L.Value.Figure.means (L.Value.Figure.reads row)) L.Value.Figure.nothing nodes.old values.now nodes.new values.now clipping waiting.old waiting.new result }
 {
     let Clipping { root } = clipping;
     match graft::discard(language, nodes, values, root, waiting) {

@@ -1,5 +1,7 @@
 // Sheets by handles: the calls that make a sheet, edit it, and free a clipping. Whether a sheet is open or settled is told by the type of its
 // handle, so that a program which edits an open sheet, forgets a clipping or uses one twice is not accepted.
+#![tactic(auto)]
+
 pub mod answer;
 mod calls;
 mod clipping_calls;

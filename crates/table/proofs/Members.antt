@@ -3,7 +3,7 @@ use Rattle.std.proofs.Common.{◌≡◌, ℕ, ◌<◌, ◌≤◌, List, length, 
 use Rattle.grammar.specs.Grammar.{Grammar}
 use Rattle.grammar.specs.Limits.{Limits}
 use Rattle.grammar.specs.Text.{Segment}
-use Rattle.grammar.specs.Tree.{Tree, none, node, hanging}
+use Rattle.grammar.specs.Tree.{Tree, node, hanging}
 use Rattle.table.specs.declared.node.Node.{Node}
 use Rattle.table.specs.Nodes.{at, child_field, Used}
 use Rattle.table.specs.Nodes

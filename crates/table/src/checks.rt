@@ -23,7 +23,7 @@ pub fn check_memory<L: Language>(
     nodes: usize,
     values: usize,
 ) -> Result<(), TableFault>
-    ensures { Answer (memory (grammar language.now) nodes values) result }
+    ensures { Answer (memory (L.grammar language.now) nodes values) result }
 {
     test(language)?;
     if !is_sized(nodes, values) {
@@ -34,7 +34,7 @@ pub fn check_memory<L: Language>(
 
 // What every call on a sheet checks first: the language, the sizes, and that the nodes form a sheet.
 pub fn begin<L: Language>(language: &L, nodes: &[Node], values: usize) -> Result<(), TableFault>
-    ensures { Answer (beginning (grammar language.now) nodes.now values) result }
+    ensures { Answer (beginning (L.grammar language.now) nodes.now values) result }
 {
     check_memory(language, nodes.len(), values)?;
     if !is_sheet(language, nodes) {

@@ -1,4 +1,6 @@
 // Tables of nodes: their records, when they form a sheet, which nodes are on it, and what calls on them check first.
+#![tactic(auto)]
+
 pub mod checks;
 pub mod climb;
 pub mod fault;

@@ -11,7 +11,7 @@ use grammar::Language;
 
 // Whether a production is a hole.
 pub fn is_hole<L: Language>(language: &L, production: u8) -> bool
-    ensures { MatchBool result (Hole (grammar language.now) production) (Hole (grammar language.now) production → ⊥) }
+    ensures { MatchBool result (Hole (L.grammar language.now) production) (Hole (L.grammar language.now) production → ⊥) }
 {
     if production == 0 {
         return false;
@@ -21,8 +21,8 @@ pub fn is_hole<L: Language>(language: &L, production: u8) -> bool
 
 // Whether child place k of node n names a used node of the right symbol that names n as its parent.
 fn child_fits<L: Language>(language: &L, nodes: &[Node], n: u16, k: usize) -> bool
-    requires { (n < length nodes.now) × ((k < 3) × (k < length ((grammar language.now).children (record_at nodes.now n).production))) }
-    ensures { MatchBool result (ChildAt (grammar language.now) nodes.now n k) (ChildAt (grammar language.now) nodes.now n k → ⊥) }
+    requires { (n < length nodes.now) × ((k < 3) × (k < length ((L.grammar language.now).children (record_at nodes.now n).production))) }
+    ensures { MatchBool result (ChildAt (L.grammar language.now) nodes.now n k) (ChildAt (L.grammar language.now) nodes.now n k → ⊥) }
 {
     let child = child_of(&nodes[n as usize], k);
     if !is_used(nodes, child) {
@@ -37,8 +37,8 @@ fn child_fits<L: Language>(language: &L, nodes: &[Node], n: u16, k: usize) -> bo
 
 // Whether every child of node n is as it should be.
 fn children_fit<L: Language>(language: &L, nodes: &[Node], n: u16) -> bool
-    requires { (n < length nodes.now) × ((record_at nodes.now n).production < (grammar language.now).productions) }
-    ensures { MatchBool result (ChildrenFit (grammar language.now) nodes.now n) (ChildrenFit (grammar language.now) nodes.now n → ⊥) }
+    requires { (n < length nodes.now) × ((record_at nodes.now n).production < (L.grammar language.now).productions) }
+    ensures { MatchBool result (ChildrenFit (L.grammar language.now) nodes.now n) (ChildrenFit (L.grammar language.now) nodes.now n → ⊥) }
 {
     let count = language.children(nodes[n as usize].production).len();
     for k in 0..count {
@@ -51,8 +51,8 @@ fn children_fit<L: Language>(language: &L, nodes: &[Node], n: u16) -> bool
 
 // Whether node n is exactly one child of node m.
 fn is_one_child_of<L: Language>(language: &L, nodes: &[Node], m: u16, n: u16) -> bool
-    requires { (m < length nodes.now) × ((record_at nodes.now m).production < (grammar language.now).productions) }
-    ensures { MatchBool result (OneChildOf (grammar language.now) nodes.now m n) (OneChildOf (grammar language.now) nodes.now m n → ⊥) }
+    requires { (m < length nodes.now) × ((record_at nodes.now m).production < (L.grammar language.now).productions) }
+    ensures { MatchBool result (OneChildOf (L.grammar language.now) nodes.now m n) (OneChildOf (L.grammar language.now) nodes.now m n → ⊥) }
 {
     let count = language.children(nodes[m as usize].production).len();
     is_once_among(&nodes[m as usize], count, n)
@@ -61,7 +61,7 @@ fn is_one_child_of<L: Language>(language: &L, nodes: &[Node], m: u16, n: u16) ->
 // Whether a used node hangs as it should; where it does not, the nodes form no sheet.
 fn hangs<L: Language>(language: &L, nodes: &[Node], n: u16) -> bool
     requires { (length nodes.now ≤ 1000) × (Used nodes.now n) }
-    ensures { MatchBool result (Hangs (grammar language.now) nodes.now n) (Sheet (grammar language.now) nodes.now → ⊥) }
+    ensures { MatchBool result (Hangs (L.grammar language.now) nodes.now n) (Sheet (L.grammar language.now) nodes.now → ⊥) }
 {
     let parent = nodes[n as usize].parent;
     if n == 0 {
@@ -92,7 +92,7 @@ fn starts_right(n: u16, production: u8) -> bool
 // Whether node n's record is right, but for how the node hangs and that climbing ends.
 fn record_fits<L: Language>(language: &L, nodes: &[Node], n: u16) -> bool
     requires { n < length nodes.now }
-    ensures { MatchBool result (RecordFits (grammar language.now) nodes.now n) (RecordFits (grammar language.now) nodes.now n → ⊥) }
+    ensures { MatchBool result (RecordFits (L.grammar language.now) nodes.now n) (RecordFits (L.grammar language.now) nodes.now n → ⊥) }
 {
     let node = nodes[n as usize];
     if node.production >= language.productions() {
@@ -113,7 +113,7 @@ fn record_fits<L: Language>(language: &L, nodes: &[Node], n: u16) -> bool
 // Whether a used node is in order; where it is not, the nodes form no sheet.
 fn is_in_order<L: Language>(language: &L, nodes: &[Node], n: u16) -> bool
     requires { (length nodes.now ≤ 1000) × (Used nodes.now n) }
-    ensures { MatchBool result (InOrder (grammar language.now) nodes.now n) (Sheet (grammar language.now) nodes.now → ⊥) }
+    ensures { MatchBool result (InOrder (L.grammar language.now) nodes.now n) (Sheet (L.grammar language.now) nodes.now → ⊥) }
 {
     if !record_fits(language, nodes, n) {
         return false;
@@ -130,7 +130,7 @@ fn is_in_order<L: Language>(language: &L, nodes: &[Node], n: u16) -> bool
 // Whether node n is in order or blank; where it is neither, the nodes form no sheet.
 fn is_good<L: Language>(language: &L, nodes: &[Node], n: u16) -> bool
     requires { (length nodes.now ≤ 1000) × (n < length nodes.now) }
-    ensures { MatchBool result (Good (grammar language.now) nodes.now n) (Sheet (grammar language.now) nodes.now → ⊥) }
+    ensures { MatchBool result (Good (L.grammar language.now) nodes.now n) (Sheet (L.grammar language.now) nodes.now → ⊥) }
 {
     if nodes[n as usize].used {
         return is_in_order(language, nodes, n);
@@ -141,7 +141,7 @@ fn is_good<L: Language>(language: &L, nodes: &[Node], n: u16) -> bool
 // Whether the nodes form a sheet.
 pub(crate) fn is_sheet<L: Language>(language: &L, nodes: &[Node]) -> bool
     requires { length nodes.now ≤ 1000 }
-    ensures { MatchBool result (Sheet (grammar language.now) nodes.now) (Sheet (grammar language.now) nodes.now → ⊥) }
+    ensures { MatchBool result (Sheet (L.grammar language.now) nodes.now) (Sheet (L.grammar language.now) nodes.now → ⊥) }
 {
     if !is_used(nodes, 0) {
         return false;

@@ -8,5 +8,5 @@ use grammar::Language;
 
 // Every used node of a sheet has exactly one tree. The function does nothing; its contract is the theorem.
 pub fn sheets_hold_trees<L: Language>(language: &L, nodes: &[Node])
-    ensures { length nodes.now ≤ 1000 → Sheet (grammar language.now) nodes.now → HoldsTrees (grammar language.now) nodes.now }
+    ensures { length nodes.now ≤ 1000 → Sheet (L.grammar language.now) nodes.now → HoldsTrees (L.grammar language.now) nodes.now }
 {}

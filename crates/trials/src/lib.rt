@@ -1,4 +1,6 @@
 // Trials: a call on a copy of lent memory, without handles, and how much of the memory differs after it. For tests.
+#![tactic(auto)]
+
 pub mod call;
 pub mod trial;
 

@@ -7,13 +7,13 @@ pub returns-then-attribute-inherited : goal.returns-then-attribute-inherited
 returns-then-attribute-inherited g c =
     asked_given (g.L.Language.grammar c.args.language.now) c.args.production c.args.choice c.args.k c.args.attribute _ _
     c.children-children.ensures c.inherited-inherited.ensures c.if-k-children.false _
-    (c.argument-bits.ensures ∙ ap bits_of c.arguments.ensures) c.if-attribute-inherited.true
+    (c.argument_bits.ensures ∙ ap bits_of c.arguments.ensures) c.if-attribute-inherited.true
 
 pub returns-then-attribute-inherited-2 : goal.returns-then-attribute-inherited-2
 returns-then-attribute-inherited-2 g c =
     asked_related (g.L.Language.grammar c.args.language.now) c.args.production c.args.choice c.args.k c.args.attribute _ _
     c.children-children.ensures c.inherited-inherited.ensures c.if-k-children.false _ _ _
-    c.synthesized.ensures c.relation.ensures c.relation-field.ensures.value c.if-attribute-inherited.false c.if-attribute-inherited-2.true
+    c.synthesized.ensures c.relation.ensures c.relation_field.ensures.value c.if-attribute-inherited.false c.if-attribute-inherited-2.true
 
 pub returns : goal.returns
 returns g c =

@@ -1,4 +1,4 @@
-use Rattle.std.proofs.Common.{◌≡◌, ◌-◌, sym, ◌∙◌, arith, length-set}
+use Rattle.std.proofs.Common.{◌≡◌, sym, ◌∙◌, arith, length-set}
 use Rattle.std.proofs.lemmas.List.FromFn.{fill_by_all}
 use Rattle.circularity.specs.Working.{row_of}
 use Rattle.circularity.proofs.Rows.{row_of_parent, row_of_child}
@@ -12,8 +12,8 @@ loop-v-preserved g c =
     let v = c.loop-v.v in
     let here : c.if-v-lt4.rows ≡ row_of gr c.args.production c.args.choice v =
     elim c.if-v-lt4.branch [
-      | then-v-lt4 w ↦ w.rows-is ∙ w.parent-edges.ensures ∙ sym (row_of_parent gr c.args.production c.args.choice v w.if-v-lt4.true)
-      | else-v-lt4 w ↦ w.rows-is ∙ w.child-edges.ensures ∙ sym (row_of_child gr c.args.production c.args.choice v w.if-v-lt4.false)
+      | then-v-lt4 w ↦ w.rows-is ∙ w.parent_edges.ensures ∙ sym (row_of_parent gr c.args.production c.args.choice v w.if-v-lt4.true)
+      | else-v-lt4 w ↦ w.rows-is ∙ w.child_edges.ensures ∙ sym (row_of_child gr c.args.production c.args.choice v w.if-v-lt4.false)
     ] in (
       simp length-set c.loop-v.invariant.0,
       written_more (row_of gr c.args.production c.args.choice) c.loop-v.rows v c.if-v-lt4.rows (omega arith) c.loop-v.invariant.1 here,

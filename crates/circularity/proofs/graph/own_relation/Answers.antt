@@ -3,11 +3,11 @@ use lib.Bits.{bit_or}
 use Rattle.std.proofs.lemmas.Nat.{mul-le, one_shl}
 use Rattle.circularity.proofs.graph.own_relation.Goals as goal
 
-pub overflow-mul-relation : goal.overflow-mul-relation
-overflow-mul-relation c = let h : c.args.h * c.loop-j.j ≤ 4 * 3 = mul-le _ _ 4 3 (omega arith) (omega arith) in search rules
+pub overflow_mul-relation : goal.overflow_mul-relation
+overflow_mul-relation c = let h : c.args.h * c.loop-j.j ≤ 4 * 3 = mul-le _ _ 4 3 (omega arith) (omega arith) in search rules
 
-pub overflow-shl-relation-in-loop-j : goal.overflow-shl-relation-in-loop-j
-overflow-shl-relation-in-loop-j c = let h : c.args.h * c.loop-j.j ≤ 4 * 3 = mul-le _ _ 4 3 (omega arith) (omega arith) in omega arith
+pub overflow_shl-relation-in-loop-j : goal.overflow_shl-relation-in-loop-j
+overflow_shl-relation-in-loop-j c = let h : c.args.h * c.loop-j.j ≤ 4 * 3 = mul-le _ _ 4 3 (omega arith) (omega arith) in omega arith
 
 pub loop-j-preserved : goal.loop-j-preserved
 loop-j-preserved c =

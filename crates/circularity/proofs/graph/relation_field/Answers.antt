@@ -3,11 +3,11 @@ use Rattle.std.proofs.lemmas.Nat.{mul-le, one_shl, mod_below, pow_pos}
 use Rattle.circularity.proofs.Small.{power_small}
 use Rattle.circularity.proofs.graph.relation_field.Goals as goal
 
-pub overflow-mul-result : goal.overflow-mul-result
-overflow-mul-result c = let h : c.args.h * c.args.j ≤ 4 * 3 = mul-le _ _ 4 3 c.requires.0 (omega arith) in search rules
+pub overflow_mul-result : goal.overflow_mul-result
+overflow_mul-result c = let h : c.args.h * c.args.j ≤ 4 * 3 = mul-le _ _ 4 3 c.requires.0 (omega arith) in search rules
 
-pub overflow-shr-result : goal.overflow-shr-result
-overflow-shr-result c = let h : c.args.h * c.args.j ≤ 4 * 3 = mul-le _ _ 4 3 c.requires.0 (omega arith) in omega arith
+pub overflow_shr-result : goal.overflow_shr-result
+overflow_shr-result c = let h : c.args.h * c.args.j ≤ 4 * 3 = mul-le _ _ 4 3 c.requires.0 (omega arith) in omega arith
 
 pub returns : goal.returns
 returns c =

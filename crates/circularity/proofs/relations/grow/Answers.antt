@@ -16,4 +16,4 @@ bounds-masks-symbol-in-loop-production g c =
 pub loop-production-preserved : goal.loop-production-preserved
 loop-production-preserved g c =
     grown_next (g.L.Language.grammar c.args.language.now) c.loop-production.production c.args.masks.now c.loop-production.masks c.loop-production.invariant
-    _ c.symbol.ensures _ c.try-production-found.ensures
+    _ c.symbol.ensures _ c.try_production-found.ensures

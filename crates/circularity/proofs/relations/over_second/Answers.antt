@@ -9,10 +9,10 @@ loop-second-preserved g c =
     elim c.if-has.branch [
       | then-has w ↦ gathered_yes (λ y. gathered (λ z. outcome_of (g.L.Language.grammar c.args.language.now) c.args.production (choice c.args.first y z)) c.args.thirds 16)
           c.args.seconds c.loop-second.second c.loop-second.found c.loop-second.invariant
-          (sym c.has.ensures ∙ w.if-has.true) w.over-third.result c.if-has.found w.over-third.ensures (w.found_is ∙ w.join-found.ensures)
+          (sym c.has.ensures ∙ w.if-has.true) w.over_third.result c.if-has.found w.over_third.ensures (w.found-is ∙ w.join-found.ensures)
       | else-has w ↦ gathered_no (λ y. gathered (λ z. outcome_of (g.L.Language.grammar c.args.language.now) c.args.production (choice c.args.first y z)) c.args.thirds 16)
           c.args.seconds c.loop-second.second c.loop-second.found c.loop-second.invariant
-          (sym c.has.ensures ∙ w.if-has.false) c.if-has.found w.found_is
+          (sym c.has.ensures ∙ w.if-has.false) c.if-has.found w.found-is
     ]
 
 pub returns : goal.returns

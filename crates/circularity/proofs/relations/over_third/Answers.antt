@@ -9,10 +9,10 @@ loop-third-preserved g c =
     elim c.if-has.branch [
       | then-has w ↦ gathered_yes (λ z. outcome_of (g.L.Language.grammar c.args.language.now) c.args.production (choice c.args.first c.args.second z))
           c.args.thirds c.loop-third.third c.loop-third.found c.loop-third.invariant
-          (sym c.has.ensures ∙ w.if-has.true) w.work-out.result c.if-has.found w.work-out.ensures (w.found_is ∙ w.join-found.ensures)
+          (sym c.has.ensures ∙ w.if-has.true) w.work_out.result c.if-has.found w.work_out.ensures (w.found-is ∙ w.join-found.ensures)
       | else-has w ↦ gathered_no (λ z. outcome_of (g.L.Language.grammar c.args.language.now) c.args.production (choice c.args.first c.args.second z))
           c.args.thirds c.loop-third.third c.loop-third.found c.loop-third.invariant
-          (sym c.has.ensures ∙ w.if-has.false) c.if-has.found w.found_is
+          (sym c.has.ensures ∙ w.if-has.false) c.if-has.found w.found-is
     ]
 
 pub returns : goal.returns

@@ -4,6 +4,6 @@ use Rattle.circularity.proofs.relations.try_production.Goals as goal
 
 pub returns : goal.returns
 returns g c =
-    c.over-first.ensures
+    c.over_first.ensures
     ∙ found_from (g.L.Language.grammar c.args.language.now) c.args.production c.args.masks.now _ _ _
     c.choices-firsts.ensures c.choices-seconds.ensures c.choices-thirds.ensures

@@ -5,7 +5,7 @@ use Rattle.table.proofs.Refusing.{passed_on}
 use Rattle.edit.specs.declared.fault.EditFault.TheVariants.{Table}
 use Rattle.edit.proofs.checks.check_at_node.Goals as goal
 
-pub returns-in-err-begin : goal.returns-in-err-begin
-returns-in-err-begin g c =
+pub returns-in_err-begin : goal.returns-in_err-begin
+returns-in_err-begin g c =
     passed_on Table [] (beginning (g.L.Language.grammar c.args.language.now) c.args.nodes.now c.args.values) (lifted Table (on_sheet c.args.nodes.now c.args.n ∷ [])) _
-    c.from-residual.result tt c.in-err-begin.ensures c.from-residual.ensures.1
+    c.from_residual.result tt c.in_err-begin.ensures c.from_residual.ensures.1

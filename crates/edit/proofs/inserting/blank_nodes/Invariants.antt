@@ -3,4 +3,4 @@ use Rattle.edit.specs.Memory.{Blanked}
 use Rattle.edit.proofs.inserting.blank_nodes.Given as goal
 
 abbrev pub invariant-loop-k : goal.invariant-loop-k
-invariant-loop-k g l = Blanked (λ row. g.Value.Figure.means (g.Value.Figure.reads row)) g.Value.Figure.nothing (take l.k l.at) l.initial.values l.values
+invariant-loop-k g l = Blanked (λ row. g.L.Value.Figure.means (g.L.Value.Figure.reads row)) g.L.Value.Figure.nothing (take l.k l.at) l.initial.values l.values

@@ -3,31 +3,31 @@ use Rattle.edit.proofs.Editing.{insert_refused}
 use Rattle.edit.proofs.Filling.{node_inside, few_symbols, fields_apart, insert_done}
 use Rattle.edit.proofs.inserting.insert.Goals as goal
 
-pub returns-in-err-at : goal.returns-in-err-at
-returns-in-err-at g c =
-    insert_refused (g.L.Language.grammar c.args.language.now) (λ row. g.Value.Figure.means (g.Value.Figure.reads row)) g.Value.Figure.nothing c.args.nodes.now c.args.values.now c.args.n c.args.literal _ (to_z-of_z c.ranges.literal)
-    c.in-err-at.field-0.0 c.from-residual.result c.from-residual.ensures.1 c.args.production c.in-err-at.ensures
+pub returns-in_err-at : goal.returns-in_err-at
+returns-in_err-at g c =
+    insert_refused (g.L.Language.grammar c.args.language.now) (λ row. g.L.Value.Figure.means (g.L.Value.Figure.reads row)) g.L.Value.Figure.nothing c.args.nodes.now c.args.values.now c.args.n c.args.literal _ (to_z-of_z c.ranges.literal)
+    c.in_err-at.field-0.0 c.from_residual.result c.from_residual.ensures.1 c.args.production c.in_err-at.ensures
 
-pub set-production-requires : goal.set-production-requires
-set-production-requires g c =
+pub set_production-requires : goal.set_production-requires
+set_production-requires g c =
     node_inside (g.L.Language.grammar c.args.language.now) (g.L.Language.text c.args.language.now) (g.L.Language.limits c.args.language.now) c.args.nodes.now (length c.args.values.now) c.args.n c.args.production c.args.literal _ (to_z-of_z c.ranges.literal)
-    c.in-ok-at.at c.children-symbols.result.now c.children-symbols.ensures c.in-ok-at.ensures
+    c.in_ok-at.at c.children-symbols.result.now c.children-symbols.ensures c.in_ok-at.ensures
 
-pub put-holes-requires : goal.put-holes-requires
-put-holes-requires g c = (
+pub put_holes-requires : goal.put_holes-requires
+put_holes-requires g c = (
   few_symbols (g.L.Language.grammar c.args.language.now) (g.L.Language.text c.args.language.now) (g.L.Language.limits c.args.language.now) c.args.nodes.now (length c.args.values.now) c.args.n c.args.production c.args.literal _ (to_z-of_z c.ranges.literal)
-      c.in-ok-at.at c.children-symbols.result.now c.children-symbols.ensures c.in-ok-at.ensures,
+      c.in_ok-at.at c.children-symbols.result.now c.children-symbols.ensures c.in_ok-at.ensures,
   fields_apart (g.L.Language.grammar c.args.language.now) (g.L.Language.text c.args.language.now) (g.L.Language.limits c.args.language.now) c.args.nodes.now (length c.args.values.now) c.args.n c.args.production c.args.literal _ (to_z-of_z c.ranges.literal)
-      c.in-ok-at.at c.children-symbols.result.now c.children-symbols.ensures c.in-ok-at.ensures c.set-production.new.nodes c.set-production.auto.nodes,
+      c.in_ok-at.at c.children-symbols.result.now c.children-symbols.ensures c.in_ok-at.ensures c.set_production.new.nodes c.set_production.auto.nodes,
 )
 
-pub blank-nodes-requires : goal.blank-nodes-requires
-blank-nodes-requires g c =
+pub blank_nodes-requires : goal.blank_nodes-requires
+blank_nodes-requires g c =
     few_symbols (g.L.Language.grammar c.args.language.now) (g.L.Language.text c.args.language.now) (g.L.Language.limits c.args.language.now) c.args.nodes.now (length c.args.values.now) c.args.n c.args.production c.args.literal _ (to_z-of_z c.ranges.literal)
-    c.in-ok-at.at c.children-symbols.result.now c.children-symbols.ensures c.in-ok-at.ensures
+    c.in_ok-at.at c.children-symbols.result.now c.children-symbols.ensures c.in_ok-at.ensures
 
 pub returns : goal.returns
 returns g c =
     insert_done (g.L.Language.grammar c.args.language.now) (g.L.Language.text c.args.language.now) (g.L.Language.limits c.args.language.now) c.args.nodes.now (length c.args.values.now) c.args.n c.args.production c.args.literal _ (to_z-of_z c.ranges.literal)
-    c.in-ok-at.at c.children-symbols.result.now c.children-symbols.ensures c.in-ok-at.ensures (λ row. g.Value.Figure.means (g.Value.Figure.reads row)) g.Value.Figure.nothing
-    c.set-production.new.nodes c.put-holes.new.nodes c.args.values.now c.blank-nodes.new.values c.set-production.ensures c.put-holes.ensures c.blank-nodes.ensures
+    c.in_ok-at.at c.children-symbols.result.now c.children-symbols.ensures c.in_ok-at.ensures (λ row. g.L.Value.Figure.means (g.L.Value.Figure.reads row)) g.L.Value.Figure.nothing
+    c.set_production.new.nodes c.put_holes.new.nodes c.args.values.now c.blank_nodes.new.values c.set_production.ensures c.put_holes.ensures c.blank_nodes.ensures

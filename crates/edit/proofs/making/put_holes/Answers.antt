@@ -12,4 +12,4 @@ bounds-children-k g c =
 pub loop-k-preserved : goal.loop-k-preserved
 loop-k-preserved g c =
     holes_again (g.L.Language.grammar c.args.language.now) c.args.nodes.now _ (g.L.Language.limits c.args.language.now) c.loop-k.k c.loop-k.nodes
-    c.loop-k.children c.children-symbols.result.now c.hole-node.result c.children-symbols.ensures c.loop-k-test.true c.requires.1 c.loop-k.invariant c.hole-node.ensures
+    c.loop-k.children c.children-symbols.result.now c.hole_node.result c.children-symbols.ensures c.loop-k-test.true c.requires.1 c.loop-k.invariant c.hole_node.ensures

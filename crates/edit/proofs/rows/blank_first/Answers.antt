@@ -7,7 +7,7 @@ loop-f-init g c = stored_none c.store-row.result 0 c.args.values.now
 
 pub loop-f-preserved : goal.loop-f-preserved
 loop-f-preserved g c =
-    first_more c.store-row.result c.loop-f.f c.args.values.now c.loop-f.values c.put-row.new.values c.loop-f.invariant c.put-row.ensures
+    first_more c.store-row.result c.loop-f.f c.args.values.now c.loop-f.values c.put_row.new.values c.loop-f.invariant c.put_row.ensures
 
 pub returns : goal.returns
 returns g c =

@@ -10,30 +10,30 @@ use Rattle.graft.proofs.CutDone.{placed, hole_hangable, cut_done}
 use Rattle.edit.proofs.Editing.{refused}
 use Rattle.graft.proofs.cutting.cut.Goals as goal
 
-pub returns-in-err-hole : goal.returns-in-err-hole
-returns-in-err-hole g c =
-    refused (g.L.Language.grammar c.args.language.now) (λ row. g.Value.Figure.means (g.Value.Figure.reads row)) g.Value.Figure.nothing c.args.nodes.now c.args.values.now
+pub returns-in_err-hole : goal.returns-in_err-hole
+returns-in_err-hole g c =
+    refused (g.L.Language.grammar c.args.language.now) (λ row. g.L.Value.Figure.means (g.L.Value.Figure.reads row)) g.L.Value.Figure.nothing c.args.nodes.now c.args.values.now
     (cut_checks (g.L.Language.grammar c.args.language.now) c.args.nodes.now (length c.args.values.now) c.args.node)
-    (λ hole. CutWork (g.L.Language.grammar c.args.language.now) (λ row. g.Value.Figure.means (g.Value.Figure.reads row)) g.Value.Figure.nothing c.args.nodes.now c.args.values.now c.args.nodes.now c.args.values.now c.args.node hole)
-    _ c.from-residual.result c.in-err-hole.ensures c.from-residual.ensures.1
+    (λ hole. CutWork (g.L.Language.grammar c.args.language.now) (λ row. g.L.Value.Figure.means (g.L.Value.Figure.reads row)) g.L.Value.Figure.nothing c.args.nodes.now c.args.values.now c.args.nodes.now c.args.values.now c.args.node hole)
+    _ c.from_residual.result c.in_err-hole.ensures c.from_residual.ensures.1
 
 pub bounds-nodes-node : goal.bounds-nodes-node
-bounds-nodes-node g c = (climb_used c.args.nodes.now 0 c.args.node c.in-ok-hole.ensures.0.1.1.1.0).0
+bounds-nodes-node g c = (climb_used c.args.nodes.now 0 c.args.node c.in_ok-hole.ensures.0.1.1.1.0).0
 
 pub hang-requires : goal.hang-requires
 hang-requires g c =
-    let m = c.in-ok-hole.ensures in
-    subst (λ (z : List Node). Hangable z c.in-ok-hole.hole c.args.node)
-    (sym (placed c.args.nodes.now c.put-hole.new.nodes c.in-ok-hole.hole ((g.L.Language.grammar c.args.language.now).symbol (at c.args.nodes.now c.args.node).production) c.symbol-symbol.result c.put-hole.ensures c.symbol-symbol.ensures))
-    (hole_hangable (g.L.Language.grammar c.args.language.now) (g.L.Language.text c.args.language.now) (g.L.Language.limits c.args.language.now) c.args.nodes.now c.args.node c.in-ok-hole.hole m.0.1.0.few m.0.1.1.0 m.0.1.1.1.0 m.0.1.1.1.1.0 m.1)
+    let m = c.in_ok-hole.ensures in
+    subst (λ (z : List Node). Hangable z c.in_ok-hole.hole c.args.node)
+    (sym (placed c.args.nodes.now c.put_hole.new.nodes c.in_ok-hole.hole ((g.L.Language.grammar c.args.language.now).symbol (at c.args.nodes.now c.args.node).production) c.symbol-symbol.result c.put_hole.ensures c.symbol-symbol.ensures))
+    (hole_hangable (g.L.Language.grammar c.args.language.now) (g.L.Language.text c.args.language.now) (g.L.Language.limits c.args.language.now) c.args.nodes.now c.args.node c.in_ok-hole.hole m.0.1.0.few m.0.1.1.0 m.0.1.1.1.0 m.0.1.1.1.1.0 m.1)
 
 pub returns : goal.returns
 returns g c =
-    let m = c.in-ok-hole.ensures in (
+    let m = c.in_ok-hole.ensures in (
       m.0,
-      cut_done (g.L.Language.grammar c.args.language.now) (g.L.Language.text c.args.language.now) (g.L.Language.limits c.args.language.now) c.args.nodes.now c.args.node c.in-ok-hole.hole m.0.1.0.few m.0.1.1.0 m.0.1.1.1.0 m.0.1.1.1.1.0 m.1
-          (λ row. g.Value.Figure.means (g.Value.Figure.reads row)) g.Value.Figure.nothing c.hang.new.nodes c.args.values.now c.blank-node.new.values
-          (subst (λ (z : List Node). Exchanged c.in-ok-hole.hole c.args.node z c.hang.new.nodes)
-          (placed c.args.nodes.now c.put-hole.new.nodes c.in-ok-hole.hole ((g.L.Language.grammar c.args.language.now).symbol (at c.args.nodes.now c.args.node).production) c.symbol-symbol.result c.put-hole.ensures c.symbol-symbol.ensures) c.hang.ensures)
-          c.blank-node.ensures,
+      cut_done (g.L.Language.grammar c.args.language.now) (g.L.Language.text c.args.language.now) (g.L.Language.limits c.args.language.now) c.args.nodes.now c.args.node c.in_ok-hole.hole m.0.1.0.few m.0.1.1.0 m.0.1.1.1.0 m.0.1.1.1.1.0 m.1
+          (λ row. g.L.Value.Figure.means (g.L.Value.Figure.reads row)) g.L.Value.Figure.nothing c.hang.new.nodes c.args.values.now c.blank_node.new.values
+          (subst (λ (z : List Node). Exchanged c.in_ok-hole.hole c.args.node z c.hang.new.nodes)
+          (placed c.args.nodes.now c.put_hole.new.nodes c.in_ok-hole.hole ((g.L.Language.grammar c.args.language.now).symbol (at c.args.nodes.now c.args.node).production) c.symbol-symbol.result c.put_hole.ensures c.symbol-symbol.ensures) c.hang.ensures)
+          c.blank_node.ensures,
     )

@@ -7,17 +7,17 @@ loop-n-init c = underway_starts c.requires.few c.requires.inside c.requires.clip
 pub bounds-nodes-n : goal.bounds-nodes-n
 bounds-nodes-n c = taken_inside c.requires.few c.loop-n.invariant c.in-Some.ensures
 
-pub push-children-requires : goal.push-children-requires
-push-children-requires c = room_for_children c.requires.few c.loop-n.invariant c.in-Some.ensures c.pop.new.self.fits
+pub push_children-requires : goal.push_children-requires
+push_children-requires c = room_for_children c.requires.few c.loop-n.invariant c.in-Some.ensures c.pop.new.self.fits
 
-pub free-node-requires : goal.free-node-requires
-free-node-requires c = taken_inside c.requires.few c.loop-n.invariant c.in-Some.ensures
+pub free_node-requires : goal.free_node-requires
+free_node-requires c = taken_inside c.requires.few c.loop-n.invariant c.in-Some.ensures
 
 pub loop-n-preserved : goal.loop-n-preserved
-loop-n-preserved c = simp c.free-node.ensures (underway_goes_on c.requires.few c.loop-n.invariant c.in-Some.ensures c.push-children.ensures)
+loop-n-preserved c = simp c.free_node.ensures (underway_goes_on c.requires.few c.loop-n.invariant c.in-Some.ensures c.push_children.ensures)
 
 pub loop-n-smaller : goal.loop-n-smaller
-loop-n-smaller c = simp c.free-node.ensures (taken_fewer c.requires.few c.loop-n.invariant c.in-Some.ensures)
+loop-n-smaller c = simp c.free_node.ensures (taken_fewer c.requires.few c.loop-n.invariant c.in-Some.ensures)
 
 pub returns : goal.returns
-returns c = underway_ends c.requires.few c.loop-n.invariant c.in-default.ensures.0
+returns c = underway_ends c.requires.few c.loop-n.invariant c.in_default.ensures.0

@@ -3,11 +3,11 @@ use Rattle.plan.specs.Scope.{scope_of, word, entry_declared}
 use Rattle.plan.proofs.Words.{sum_fits, longer, declared_small}
 use Rattle.plan.proofs.scope.declare.Goals as goal
 
-pub overflow-add-result : goal.overflow-add-result
-overflow-add-result c = sum_fits (entry_declared c.args.scope c.args.name c.args.type_number) (declared_small c.args.scope c.args.name c.args.type_number c.requires) _ _ c.loop-k.k (omega arith) c.loop-k.invariant (c.from.ensures ∙ c.entry-after-after.ensures)
+pub overflow_add-result : goal.overflow_add-result
+overflow_add-result c = sum_fits (entry_declared c.args.scope c.args.name c.args.type_number) (declared_small c.args.scope c.args.name c.args.type_number c.requires) _ _ c.loop-k.k (omega arith) c.loop-k.invariant (c.from.ensures ∙ c.entry_after-after.ensures)
 
 pub loop-k-preserved : goal.loop-k-preserved
-loop-k-preserved c = longer (entry_declared c.args.scope c.args.name c.args.type_number) (declared_small c.args.scope c.args.name c.args.type_number c.requires) _ _ c.loop-k.k (omega arith) c.loop-k.invariant (c.from.ensures ∙ c.entry-after-after.ensures)
+loop-k-preserved c = longer (entry_declared c.args.scope c.args.name c.args.type_number) (declared_small c.args.scope c.args.name c.args.type_number c.requires) _ _ c.loop-k.k (omega arith) c.loop-k.invariant (c.from.ensures ∙ c.entry_after-after.ensures)
 
 pub returns : goal.returns
 unfolding scope_of

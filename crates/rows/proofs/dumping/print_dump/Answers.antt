@@ -7,6 +7,6 @@ use Rattle.rows.proofs.dumping.print_dump.Goals as goal
 pub returns : goal.returns
 returns g c =
     both (vec_items c.args.out.now) _ _ _ _
-    (c.in-ok-print-records.ensures ∙ ap (λ ns. vec_items c.args.out.now ++ lines_from record_text 0 ns) c.deref.ensures.value)
-    (c.in-ok-print-values.ensures
-    ∙ ap (λ rows. vec_items c.print-records.new.out ++ lines_from (value_text g.R.WrittenRow.reads) 0 rows) c.deref-2.ensures.value)
+    (c.in_ok-print_records.ensures ∙ ap (λ ns. vec_items c.args.out.now ++ lines_from record_text 0 ns) c.deref.ensures.value)
+    (c.in_ok-print_values.ensures
+    ∙ ap (λ rows. vec_items c.print_records.new.out ++ lines_from (value_text g.R.WrittenRow.reads) 0 rows) c.deref-2.ensures.value)

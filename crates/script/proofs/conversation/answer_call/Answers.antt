@@ -8,7 +8,7 @@ use Rattle.script.proofs.conversation.answer_call.Goals as goal
 pub returns : goal.returns
 returns g c = (
   _,
-  two_more (vec_items c.args.out.now) (reply (words c.args.line.now) c.in-ok-answer.answer) _ _ _
-      c.in-ok-print-reply.ensures c.in-ok-print-further.ensures,
-  (c.in-ok-answer.answer, refl, c.in-ok-answer.ensures),
+  two_more (vec_items c.args.out.now) (reply (words c.args.line.now) c.in_ok-answer.answer) _ _ _
+      c.in_ok-print_reply.ensures c.in_ok-print_further.ensures,
+  (c.in_ok-answer.answer, refl, c.in_ok-answer.ensures),
 )

@@ -7,7 +7,7 @@ use Rattle.script.proofs.printing.print_answer.Goals as goal
 pub returns : goal.returns
 returns c =
     three_more (vec_items c.args.out.now) (codes "=> ") (answer_text c.args.answer) _ _ _ _
-    c.in-ok-extend-from-slice.ensures.items
-    (c.in-ok-extend-from-slice-2.ensures.items
-    ∙ ap (λ ys. vec_items c.extend-from-slice.new.self ++ ys) (c.as-bytes.ensures.value ∙ c.in-ok-text.ensures))
-    c.in-ok-push.ensures.items
+    c.in_ok-extend_from_slice.ensures.items
+    (c.in_ok-extend_from_slice-2.ensures.items
+    ∙ ap (λ ys. vec_items c.extend_from_slice.new.self ++ ys) (c.as_bytes.ensures.value ∙ c.in_ok-text.ensures))
+    c.in_ok-push.ensures.items

@@ -8,4 +8,4 @@ use Rattle.script.proofs.printing.print_reply.Goals as goal
 pub returns : goal.returns
 returns c =
     two_more (vec_items c.args.out.now) (echoed (words c.args.line.now)) (after_arrow c.args.answer) _ _
-    c.in-ok-print-words.ensures c.in-ok-print-answer.ensures
+    c.in_ok-print_words.ensures c.in_ok-print_answer.ensures

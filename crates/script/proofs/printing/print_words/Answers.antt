@@ -4,5 +4,5 @@ use Rattle.script.proofs.printing.print_words.Goals as goal
 
 pub loop-word-preserved : goal.loop-word-preserved
 loop-word-preserved c =
-    word_more _ _ _ _ _ _ _ c.in-ok-extend-from-slice.ensures.items c.in-ok-push.ensures.items
+    word_more _ _ _ _ _ _ _ c.in_ok-extend_from_slice.ensures.items c.in_ok-push.ensures.items
     c.in-Some.ensures.words_are c.loop-word.invariant

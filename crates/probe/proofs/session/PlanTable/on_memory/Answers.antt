@@ -9,11 +9,11 @@ use Rattle.probe.proofs.session.PlanTable.on_memory.Goals as goal
 pub returns-in-Plain : goal.returns-in-Plain
 returns-in-Plain c =
     subst
-    (λ table. IfOk c.on-memory.result (λ answer. OnMemory (table_grammar table) read_row blank_figure stores_plan c.args.call c.args.owned.now answer c.on-memory.new.owned))
-    (sym c.in-Plain.is) c.on-memory.ensures
+    (λ table. IfOk c.on_memory.result (λ answer. OnMemory (table_grammar table) read_row blank_figure stores_plan c.args.call c.args.owned.now answer c.on_memory.new.owned))
+    (sym c.in-Plain.is) c.on_memory.ensures
 
 pub returns-in-Changed : goal.returns-in-Changed
 returns-in-Changed c =
     subst
-    (λ table. IfOk c.on-memory-in-Changed.result (λ answer. OnMemory (table_grammar table) read_row blank_figure stores_plan c.args.call c.args.owned.now answer c.on-memory-in-Changed.new.owned))
-    (sym c.in-Changed.is) c.on-memory-in-Changed.ensures
+    (λ table. IfOk c.on_memory-in-Changed.result (λ answer. OnMemory (table_grammar table) read_row blank_figure stores_plan c.args.call c.args.owned.now answer c.on_memory-in-Changed.new.owned))
+    (sym c.in-Changed.is) c.on_memory-in-Changed.ensures

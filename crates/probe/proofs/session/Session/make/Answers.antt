@@ -14,12 +14,12 @@ pub returns-in-OnFormula : goal.returns-in-OnFormula
 returns-in-OnFormula c =
     in_session OnFormula (λ before answer after. MadeIn before c.args.nodes answer after)
     (λ answer owned'. MadeSized formula_grammar (λ row. reading_of (read row)) formula.blank c.args.nodes c.in-OnFormula.owned answer owned')
-    c.args.self.now c.in-OnFormula.owned c.make-sized.new.owned c.make-sized.result
-    (λ answer did. (c.make-sized.new.owned, did, refl)) c.in-OnFormula.is c.make-sized.ensures
+    c.args.self.now c.in-OnFormula.owned c.make_sized.new.owned c.make_sized.result
+    (λ answer did. (c.make_sized.new.owned, did, refl)) c.in-OnFormula.is c.make_sized.ensures
 
 pub returns-in-OnPlan : goal.returns-in-OnPlan
 returns-in-OnPlan c =
     in_session (OnPlan c.in-OnPlan.table) (λ before answer after. MadeIn before c.args.nodes answer after)
     (λ answer owned'. MadeSized (table_grammar c.in-OnPlan.table) read_row blank_figure c.args.nodes c.in-OnPlan.owned answer owned')
-    c.args.self.now c.in-OnPlan.owned c.make-sized-in-OnPlan.new.owned c.make-sized-in-OnPlan.result
-    (λ answer did. (c.make-sized-in-OnPlan.new.owned, did, refl)) c.in-OnPlan.is c.make-sized-in-OnPlan.ensures
+    c.args.self.now c.in-OnPlan.owned c.make_sized-in-OnPlan.new.owned c.make_sized-in-OnPlan.result
+    (λ answer did. (c.make_sized-in-OnPlan.new.owned, did, refl)) c.in-OnPlan.is c.make_sized-in-OnPlan.ensures
