@@ -5,6 +5,7 @@ pub mod Edits
 pub mod Hanging
 pub mod Gathering
 pub mod Starting
+pub mod Touching
 pub mod Faults
 pub mod Checks
 pub mod Calls

@@ -1,0 +1,4 @@
+pub mod Carrying
+pub mod Untouched
+pub mod Calls
+pub mod Outside
