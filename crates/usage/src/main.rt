@@ -1,4 +1,4 @@
-// How a program uses handles and clippings. The edits in must-fail/ misuse them, one each, and the types refuse every one.
+// How a program uses handles and clippings. The edits in misuse/ misuse them, one each, and the types refuse every one.
 #![tactic(auto)]
 
 mod moving;
