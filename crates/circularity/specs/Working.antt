@@ -1,6 +1,6 @@
 -- What the inner functions of the test compute, as functions of the table: one production's local graph, its closure, and the relations found so far.
 -- Nobody has to believe this file to read the test's contract, which speaks of trees alone.
-use Rattle.std.specs.Prelude.{◌≡◌, ℕ, zero, suc, ◌+◌, ◌-◌, ◌*◌, ◌/◌, ◌%◌, ◌^◌, Bool, true, false, cond, ◌||◌, List, [], ◌∷◌, map, length, set, replicate, fold, sum, bit_or, count_ones, nat_lt, slice_index, slice_set}
+use Rattle.std.specs.Prelude.{◌≡◌, ℕ, zero, suc, ◌+◌, ◌-◌, ◌*◌, ◌/◌, ◌%◌, ◌^◌, Bool, true, false, cond, ◌||◌, List, [], ◌∷◌, map, length, replicate, fold, sum, bit_or, count_ones, nat_lt, slice_index, slice_set}
 use Rattle.std.specs.List.{range_with_len}
 use Rattle.grammar.specs.declared.language.Occurrence.{Occurrence}
 use Rattle.grammar.specs.Grammar.{Grammar, child, arguments}

@@ -34,8 +34,8 @@ new_unused ns count enough m used i =
 
 -- Where a root was hung in node n's place, every node but the old parent has its record up to the parent, if node n has.
 hung : (before after : List Node) (root n : ℕ) → at after root ≡ with_parent (at before root) (at before n).parent → OnlyRecords (n ∷ root ∷ (at before n).parent ∷ []) before after → (q : ℕ) → (q ≡ n → SameButParent before after q) → (q ≡ (at before n).parent → ⊥) → SameButParent before after q
-hung before after root n root_is others q Node-Stays out = elim (equal_or_not q n) [
-  | inl same ↦ Node-Stays same.1
+hung before after root n root_is others q node_stays out = elim (equal_or_not q n) [
+  | inl same ↦ node_stays same.1
   | inr apart ↦ elim (equal_or_not q root) [
     | inl same ↦ record { parent = (at before n).parent; is = subst (λ (x : ℕ). at after x ≡ with_parent (at before x) (at before n).parent) (sym same.1) root_is }
     | inr elsewhere ↦ unchanged before after q (others.same q (λ i. elim i [ inl e ↦ apart.1 e | inr j ↦ elim j [ inl e ↦ elsewhere.1 e | inr k ↦ elim k [ inl e ↦ out e | inr l ↦ l ] ] ]))

@@ -37,7 +37,7 @@ fn gather(nodes: &[Node], root: u16, slots: &mut [u16]) -> usize
 
 // Frees the listed nodes.
 fn free_listed(nodes: &mut [Node], slots: &[u16], count: usize)
-    requires { (count ≤ length slots.now) × (((k : ℕ) → k < count → slice_index slots.now k < length nodes.old)) }
+    requires { (count ≤ length slots.now) × ((k : ℕ) → k < count → slice_index slots.now k < length nodes.old) }
     ensures { Freed slots.now count nodes.old nodes.new }
 {
     for k in 0..count {

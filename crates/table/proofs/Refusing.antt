@@ -1,5 +1,5 @@
 -- Lists of checks put together and lifted: what the parts say, the whole says.
--- `handed-on` and `passed_on` answer the exit of a `?`: the callee's refusal is the caller's, in the same layer and in the one above.
+-- `handed_on` and `passed_on` answer the exit of a `?`: the callee's refusal is the caller's, in the same layer and in the one above.
 use Rattle.std.proofs.Common.{◌≡◌, List, [], ◌∷◌, ◌++◌, IsErrAnd, Ok, Err, Result, sym, refl, subst, inl, inr}
 use Rattle.table.specs.Refusals.{Check, Met, First, lifted, Answer}
 

@@ -3,6 +3,9 @@ use Rattle.circularity.proofs.Bits.{T_true, T_false}
 use Rattle.circularity.proofs.Rounds.{saturated_passes, saturated_culprit}
 use Rattle.circularity.proofs.test.Goals as goal
 
+pub loop-production-init : goal.loop-production-init
+loop-production-init g c = λ p h cyclic. absurd (omega arith)
+
 pub loop-production-preserved : goal.loop-production-preserved
 loop-production-preserved g c =
     below_more _ _ c.loop-production.invariant (T_false _ (sym (ap (λ o. o.cyclic) c.try_production.ensures) ∙ c.if-try_production.false))
