@@ -1,9 +1,9 @@
 -- The number, the layer and the name of each fault of the edit layer.
-use Rattle.std.specs.Prelude.{ℕ}
+use Rattle.std.specs.Prelude.{ℕ, Option, Some, None}
 use Rattle.circularity.specs.declared.fault.Layer.{Layer}
 use Rattle.circularity.specs.declared.fault.Layer.TheVariants.{Edit}
 use Rattle.circularity.specs.declared.fault.Named.{Named}
-use Rattle.circularity.specs.declared.fault.Named.TheVariants.{Nothing, Node}
+use Rattle.circularity.specs.declared.fault.Named.TheVariants.{Node}
 use Rattle.table.specs.Faults as table
 use Rattle.edit.specs.declared.fault.EditFault.{EditFault}
 use Rattle.edit.specs.declared.fault.EditFault.TheVariants.{Table, NoClipping, WrongPlace, WrongSymbol, LiteralRefused, TooFewNodes}
@@ -24,10 +24,10 @@ layer_of (WrongSymbol n) = Edit
 layer_of (LiteralRefused n) = Edit
 layer_of (TooFewNodes n) = Edit
 
-abbrev pub named_by : EditFault → Named
+abbrev pub named_by : EditFault → Option Named
 named_by (Table e) = table.named_by e
-named_by NoClipping = Nothing
-named_by (WrongPlace n) = Node n
-named_by (WrongSymbol n) = Node n
-named_by (LiteralRefused n) = Node n
-named_by (TooFewNodes n) = Node n
+named_by NoClipping = None
+named_by (WrongPlace n) = Some (Node n)
+named_by (WrongSymbol n) = Some (Node n)
+named_by (LiteralRefused n) = Some (Node n)
+named_by (TooFewNodes n) = Some (Node n)

@@ -3,7 +3,7 @@ ghost use Rattle.std.specs.Prelude.{◌≡◌};
 ghost use Rattle.edit.specs.declared.fault.EditFault.TheVariants.{Table};
 ghost use Rattle.edit.specs.Faults.{number_of, layer_of, named_by};
 
-use circularity::fault::{Layer, Named};
+use circularity::fault::{Fault, Layer, Named};
 use table::fault::TableFault;
 
 // The clipping is none of this table; the node is a hole where none may be, or none where one must be; the symbols do not fit; the literal
@@ -18,10 +18,14 @@ pub enum EditFault {
     TooFewNodes(u16),
 }
 
-impl EditFault {
-    pub fn number(self) -> u8
-        ensures { result ≡ number_of self }
-    {
+impl Fault for EditFault {
+    ghost number_is = { number_of };
+
+    ghost layer_is = { layer_of };
+
+    ghost names_what = { named_by };
+
+    fn number(self) -> u8 {
         match self {
             EditFault::Table(fault) => fault.number(),
             EditFault::NoClipping => 5,
@@ -32,29 +36,21 @@ impl EditFault {
         }
     }
 
-    pub fn layer(self) -> Layer
-        ensures { result ≡ layer_of self }
-    {
+    fn layer(self) -> Layer {
         match self {
             EditFault::Table(fault) => fault.layer(),
-            EditFault::NoClipping => Layer::Edit,
-            EditFault::WrongPlace(_) => Layer::Edit,
-            EditFault::WrongSymbol(_) => Layer::Edit,
-            EditFault::LiteralRefused(_) => Layer::Edit,
-            EditFault::TooFewNodes(_) => Layer::Edit,
+            _ => Layer::Edit,
         }
     }
 
-    pub fn names(self) -> Named
-        ensures { result ≡ named_by self }
-    {
+    fn names(self) -> Option<Named> {
         match self {
             EditFault::Table(fault) => fault.names(),
-            EditFault::NoClipping => Named::Nothing,
-            EditFault::WrongPlace(node) => Named::Node(node),
-            EditFault::WrongSymbol(node) => Named::Node(node),
-            EditFault::LiteralRefused(node) => Named::Node(node),
-            EditFault::TooFewNodes(node) => Named::Node(node),
+            EditFault::NoClipping => None,
+            EditFault::WrongPlace(node)
+            | EditFault::WrongSymbol(node)
+            | EditFault::LiteralRefused(node)
+            | EditFault::TooFewNodes(node) => Some(Named::Node(node)),
         }
     }
 }

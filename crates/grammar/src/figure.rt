@@ -43,13 +43,10 @@ impl<'a, R: Copy> Arguments<'a, R> {
     pub fn value<F: Figure<Row = R>>(&self, k: usize) -> F
         ensures { F.Figure.means result ≡ slice_index_or (meanings F.Figure.means F.Figure.reads F.Figure.nothing self.now.rows.now self.now.at.now) k F.Figure.nothing }
     {
-        if k >= self.at.len() {
-            return F::blank();
+        let row = self.at.get(k).and_then(|f| self.rows.get(usize::from(*f)));
+        match row {
+            Some(row) => F::load(*row),
+            None => F::blank(),
         }
-        let f = self.at[k] as usize;
-        if f >= self.rows.len() {
-            return F::blank();
-        }
-        F::load(self.rows[f])
     }
 }

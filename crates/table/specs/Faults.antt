@@ -1,9 +1,9 @@
 -- The number, the layer and the name of each fault of the table layer.
-use Rattle.std.specs.Prelude.{ℕ}
+use Rattle.std.specs.Prelude.{ℕ, Option, Some, None}
 use Rattle.circularity.specs.declared.fault.Layer.{Layer}
 use Rattle.circularity.specs.declared.fault.Layer.TheVariants.{Table}
 use Rattle.circularity.specs.declared.fault.Named.{Named}
-use Rattle.circularity.specs.declared.fault.Named.TheVariants.{Nothing, Node}
+use Rattle.circularity.specs.declared.fault.Named.TheVariants.{Node}
 use Rattle.circularity.specs.Faults as language
 use Rattle.table.specs.declared.fault.TableFault.{TableFault}
 use Rattle.table.specs.declared.fault.TableFault.TheVariants.{Language, Size, NoSheet, Buffer, NotOnSheet}
@@ -22,9 +22,9 @@ layer_of NoSheet = Table
 layer_of Buffer = Table
 layer_of (NotOnSheet n) = Table
 
-abbrev pub named_by : TableFault → Named
+abbrev pub named_by : TableFault → Option Named
 named_by (Language e) = language.named_by e
-named_by Size = Nothing
-named_by NoSheet = Nothing
-named_by Buffer = Nothing
-named_by (NotOnSheet n) = Node n
+named_by Size = None
+named_by NoSheet = None
+named_by Buffer = None
+named_by (NotOnSheet n) = Some (Node n)

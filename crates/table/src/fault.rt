@@ -1,9 +1,9 @@
-// Faults of the table layer. A fault has a number, the layer that it comes from, and what it names; one of the language layer keeps its own.
+// Faults of the table layer. One of the language layer travels whole inside, and keeps its number, its layer and what it names.
 ghost use Rattle.std.specs.Prelude.{◌≡◌};
 ghost use Rattle.table.specs.declared.fault.TableFault.TheVariants.{Language};
 ghost use Rattle.table.specs.Faults.{number_of, layer_of, named_by};
 
-use circularity::fault::{LanguageFault, Layer, Named};
+use circularity::fault::{Fault, LanguageFault, Layer, Named};
 
 // The lent memory has no fitting size, the nodes form no sheet, the output buffer is too short, or the node named is not on the sheet.
 #[derive(Clone, Copy, PartialEq, Eq)]
@@ -15,10 +15,14 @@ pub enum TableFault {
     NotOnSheet(u16),
 }
 
-impl TableFault {
-    pub fn number(self) -> u8
-        ensures { result ≡ number_of self }
-    {
+impl Fault for TableFault {
+    ghost number_is = { number_of };
+
+    ghost layer_is = { layer_of };
+
+    ghost names_what = { named_by };
+
+    fn number(self) -> u8 {
         match self {
             TableFault::Language(fault) => fault.number(),
             TableFault::Size => 2,
@@ -28,27 +32,18 @@ impl TableFault {
         }
     }
 
-    pub fn layer(self) -> Layer
-        ensures { result ≡ layer_of self }
-    {
+    fn layer(self) -> Layer {
         match self {
             TableFault::Language(fault) => fault.layer(),
-            TableFault::Size => Layer::Table,
-            TableFault::NoSheet => Layer::Table,
-            TableFault::Buffer => Layer::Table,
-            TableFault::NotOnSheet(_) => Layer::Table,
+            _ => Layer::Table,
         }
     }
 
-    pub fn names(self) -> Named
-        ensures { result ≡ named_by self }
-    {
+    fn names(self) -> Option<Named> {
         match self {
             TableFault::Language(fault) => fault.names(),
-            TableFault::Size => Named::Nothing,
-            TableFault::NoSheet => Named::Nothing,
-            TableFault::Buffer => Named::Nothing,
-            TableFault::NotOnSheet(node) => Named::Node(node),
+            TableFault::NotOnSheet(node) => Some(Named::Node(node)),
+            _ => None,
         }
     }
 }

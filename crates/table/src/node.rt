@@ -12,3 +12,14 @@ pub struct Node {
     pub parent: u16,
     pub children: [u16; 3],
 }
+
+impl Node {
+    // The record of a free node.
+    pub const FREE: Node = Node {
+        used: false,
+        production: 0,
+        literal: 0,
+        parent: NONE,
+        children: [NONE; 3],
+    };
+}
