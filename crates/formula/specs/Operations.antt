@@ -1,12 +1,10 @@
 -- What each operation gives of a production's literal and the rule's arguments.
-use Rattle.std.specs.Prelude.{ℕ, List, ℤ, slice_index_or}
+use Rattle.std.specs.Prelude.{ℕ, List, ℤ, Err, slice_index_or}
 use Rattle.formula.specs.declared.operation.Operation.{Operation}
 use Rattle.formula.specs.declared.operation.Operation.TheVariants.{Nothing, Unbound, Hole, Literal, Same, Sum, Difference, Product, Quotient, Choose}
-use Rattle.formula.specs.declared.reading.Reading.{Reading}
-use Rattle.formula.specs.declared.reading.Reading.TheVariants.{Troubled}
 use Rattle.formula.specs.declared.reading.Trouble.TheVariants.{NothingBound}
 use Rattle.formula.specs.declared.reading.Trouble.{Trouble}
-use Rattle.formula.specs.Readings.{blank, number_or_trouble}
+use Rattle.formula.specs.Readings.{Reading, blank, number_or_trouble}
 use Rattle.formula.specs.Rules.{sum, difference, product, quotient, choose}
 
 -- argument k, the blank where there is none
@@ -15,8 +13,8 @@ argument args k = slice_index_or args k blank
 
 abbrev pub gives : Operation → ℤ → List Reading → Reading
 gives Nothing l args = blank
-gives Unbound l args = Troubled NothingBound
-gives Hole l args = Troubled Trouble.Hole
+gives Unbound l args = Err NothingBound
+gives Hole l args = Err Trouble.Hole
 gives Literal l args = number_or_trouble l
 gives Same l args = argument args 0
 gives Sum l args = sum (argument args 0) (argument args 1)

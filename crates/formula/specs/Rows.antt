@@ -1,12 +1,10 @@
 -- What a figure's row reads as.
-use Rattle.std.specs.Prelude.{◌≡◌, Bool, true, false, cond, T, Some, None, refl}
+use Rattle.std.specs.Prelude.{◌≡◌, Bool, true, false, cond, T, Ok, Err, refl}
 use mathlib.Core.HLevel.{is_prop→PathP}
 use Rattle.std.proofs.Math.Dec.{T_prop}
 use Rattle.formula.specs.declared.quantity.Quantity.{Quantity}
 use Rattle.formula.specs.declared.quantity.row.QuantityRow.{QuantityRow}
-use Rattle.formula.specs.declared.reading.Reading.{Reading}
-use Rattle.formula.specs.declared.reading.Reading.TheVariants.{Number, Troubled}
-use Rattle.formula.specs.Readings.{lawful, blank, numbered_trouble}
+use Rattle.formula.specs.Readings.{Reading, lawful, blank, numbered_trouble}
 
 -- what a figure says is its meaning
 abbrev pub reading_of : Quantity → Reading
@@ -14,8 +12,8 @@ reading_of q = q.reading
 
 -- what a row says, whether or not it is lawful
 abbrev pub row_reading : QuantityRow → Reading
-row_reading (QuantityRow.Number n) = Number n
-row_reading (QuantityRow.Trouble k) = elim (numbered_trouble k) [ Some t ↦ Troubled t | None ↦ blank ]
+row_reading (QuantityRow.Number n) = Ok n
+row_reading (QuantityRow.Trouble k) = elim (numbered_trouble k) [ Ok t ↦ Err t | Err e ↦ blank ]
 
 -- a lawful reading as it is, the blank for any other
 abbrev pub kept : Reading → Reading

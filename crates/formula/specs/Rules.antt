@@ -1,20 +1,18 @@
 -- What the rules of price formulas compute from what their arguments say.
 use Rattle.std.specs.Prelude.{◌/◌, Bool, true, false, cond, ℤ, pos, negsuc, ◌+ℤ◌, ◌-ℤ◌, ◌*ℤ◌, neg_ℤ, Ok, Err, Result, ◌==◌, int_le, unsigned_abs}
-use Rattle.formula.specs.declared.reading.Reading.{Reading}
-use Rattle.formula.specs.declared.reading.Reading.TheVariants.{Number, Troubled}
 use Rattle.formula.specs.declared.reading.Trouble.{Trouble}
 use Rattle.formula.specs.declared.reading.Trouble.TheVariants.{ZeroDivisor}
-use Rattle.formula.specs.Readings.{number_or_trouble}
+use Rattle.formula.specs.Readings.{Reading, number_or_trouble}
 
 -- both numbers, or a's trouble, or else b's
 abbrev pub numbers : Reading → Reading → Result (ℤ × ℤ) Trouble
-numbers (Troubled t) b = Err t
-numbers (Number x) (Troubled t) = Err t
-numbers (Number x) (Number y) = Ok (x, y)
+numbers (Err t) b = Err t
+numbers (Ok x) (Err t) = Err t
+numbers (Ok x) (Ok y) = Ok (x, y)
 
 -- the trouble, or what comes of the two numbers
 abbrev pub of_numbers : (ℤ → ℤ → Reading) → Reading → Reading → Reading
-of_numbers f a b = elim (numbers a b) [ Ok n ↦ f n.0 n.1 | Err t ↦ Troubled t ]
+of_numbers f a b = elim (numbers a b) [ Ok n ↦ f n.0 n.1 | Err t ↦ Err t ]
 
 abbrev pub sum : Reading → Reading → Reading
 sum = of_numbers (λ x y. number_or_trouble (x +ℤ y))
@@ -38,9 +36,9 @@ quotient_of x y = let amount = unsigned_abs x / unsigned_abs y in cond (alike x 
 
 -- a zero divisor is trouble
 abbrev pub quotient : Reading → Reading → Reading
-quotient = of_numbers (λ x y. cond (unsigned_abs y == 0) (Troubled ZeroDivisor) (number_or_trouble (quotient_of x y)))
+quotient = of_numbers (λ x y. cond (unsigned_abs y == 0) (Err ZeroDivisor) (number_or_trouble (quotient_of x y)))
 
 -- a's trouble, c if a is at most 0, else b
 abbrev pub choose : Reading → Reading → Reading → Reading
-choose (Troubled t) b c = Troubled t
-choose (Number n) b c = cond (int_le n (pos 0)) c b
+choose (Err t) b c = Err t
+choose (Ok n) b c = cond (int_le n (pos 0)) c b

@@ -5,9 +5,8 @@ use Rattle.grammar.specs.Grammar.{Grammar, Rule, is_at}
 use Rattle.grammar.specs.Text.{Segment, bytes, literal, child}
 use Rattle.formula.specs.declared.operation.Operation.{Operation}
 use Rattle.formula.specs.declared.operation.Operation.TheVariants.{Nothing, Unbound, Hole, Literal, Same, Sum, Difference, Product, Quotient, Choose}
-use Rattle.formula.specs.declared.reading.Reading.{Reading}
 use Rattle.formula.specs.Operations.{gives}
-use Rattle.formula.specs.Readings.{in_range}
+use Rattle.formula.specs.Readings.{Reading, in_range}
 
 -- one rule: what it gives, by which operation, and of which arguments
 pub record Line : Type 0 where

@@ -144,7 +144,7 @@ impl Language for Formula {
 
     fn accepts(&self, production: u8, literal: i32) -> bool {
         match production {
-            CONSTANT => in_range(literal as i64),
+            CONSTANT => in_range(i64::from(literal)),
             _ => literal == 0,
         }
     }

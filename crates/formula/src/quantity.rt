@@ -1,7 +1,6 @@
 // The figure of price formulas: a reading whose number, where it is one, lies in the range. There is no figure outside.
 ghost use Rattle.std.specs.Prelude.{◌≡◌, T};
-ghost use Rattle.formula.specs.Readings.{lawful, number_or_trouble};
-ghost use Rattle.formula.specs.declared.reading.Reading.TheVariants.{Troubled};
+ghost use Rattle.formula.specs.Readings.{lawful, within_range};
 
 pub mod row;
 
@@ -23,29 +22,29 @@ impl Quantity {
 
     // The figure of a number, trouble where the number lies outside the range.
     pub fn number(number: i32) -> Quantity
-        ensures { result.reading ≡ number_or_trouble number }
+        ensures { result.reading ≡ within_range (Ok number) }
     {
-        Quantity::result(number as i64)
-    }
-
-    // The figure of what comes of a computation with numbers, trouble where it lies outside the range.
-    pub fn result(number: i64) -> Quantity
-        ensures { result.reading ≡ number_or_trouble number }
-    {
-        if !in_range(number) {
-            return Quantity::trouble(Trouble::OutOfRange);
-        }
-        Quantity {
-            reading: Reading::Number(number as i32),
-        }
+        Quantity::from(Ok(i64::from(number)))
     }
 
     // The figure of a trouble.
     pub fn trouble(trouble: Trouble) -> Quantity
-        ensures { result.reading ≡ Troubled trouble }
+        ensures { result.reading ≡ Err trouble }
     {
-        Quantity {
-            reading: Reading::Troubled(trouble),
-        }
+        Quantity::from(Err(trouble))
+    }
+}
+
+// The figure of what comes of a computation: a number outside the range is trouble.
+impl From<Result<i64, Trouble>> for Quantity {
+    ghost from_gives = { λ outcome quantity. quantity.reading ≡ within_range outcome };
+
+    fn from(outcome: Result<i64, Trouble>) -> Quantity {
+        let reading = match outcome {
+            Ok(number) if in_range(number) => Ok(number as i32),
+            Ok(_) => Err(Trouble::OutOfRange),
+            Err(trouble) => Err(trouble),
+        };
+        Quantity { reading }
     }
 }

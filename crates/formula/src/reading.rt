@@ -1,5 +1,5 @@
 // What a figure of a price formula says: a number, or the trouble that stands in its place.
-ghost use Rattle.std.specs.Prelude.{◌≡◌, Option};
+ghost use Rattle.std.specs.Prelude.{◌≡◌};
 ghost use Rattle.formula.specs.Readings.{trouble_number, numbered_trouble, in_range};
 
 #[derive(Clone, Copy, PartialEq, Eq)]
@@ -11,11 +11,7 @@ pub enum Trouble {
     NothingBound,
 }
 
-#[derive(Clone, Copy, PartialEq, Eq)]
-pub enum Reading {
-    Number(i32),
-    Troubled(Trouble),
-}
+pub type Reading = Result<i32, Trouble>;
 
 // The largest number; the smallest is its opposite.
 pub const LARGEST: i64 = 1_000_000_000;
@@ -24,28 +20,36 @@ pub const LARGEST: i64 = 1_000_000_000;
 pub fn in_range(number: i64) -> bool
     ensures { result ≡ in_range number }
 {
-    -LARGEST <= number && number <= LARGEST
+    (-LARGEST..=LARGEST).contains(&number)
 }
 
-impl Trouble {
-    // The number that a trouble goes by.
-    pub fn number(self) -> u8
-        ensures { result ≡ trouble_number self }
-    {
-        self as u8
-    }
+// A number that no trouble goes by.
+#[derive(Clone, Copy, PartialEq, Eq)]
+pub struct UnknownTrouble(pub u8);
 
-    // The trouble that goes by a number.
-    pub fn from_number(number: u8) -> Option<Trouble>
-        ensures { result ≡ numbered_trouble number }
-    {
+// The number that a trouble goes by.
+impl From<Trouble> for u8 {
+    ghost from_gives = { λ trouble number. number ≡ trouble_number trouble };
+
+    fn from(trouble: Trouble) -> u8 {
+        trouble as u8
+    }
+}
+
+// The trouble that goes by a number.
+impl TryFrom<u8> for Trouble {
+    type Error = UnknownTrouble;
+
+    ghost try_from_gives = { λ number outcome. outcome ≡ numbered_trouble number };
+
+    fn try_from(number: u8) -> Result<Trouble, UnknownTrouble> {
         match number {
-            0 => Some(Trouble::Blank),
-            1 => Some(Trouble::Hole),
-            2 => Some(Trouble::OutOfRange),
-            3 => Some(Trouble::ZeroDivisor),
-            4 => Some(Trouble::NothingBound),
-            _ => None,
+            0 => Ok(Trouble::Blank),
+            1 => Ok(Trouble::Hole),
+            2 => Ok(Trouble::OutOfRange),
+            3 => Ok(Trouble::ZeroDivisor),
+            4 => Ok(Trouble::NothingBound),
+            _ => Err(UnknownTrouble(number)),
         }
     }
 }

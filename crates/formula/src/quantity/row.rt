@@ -7,7 +7,8 @@ use crate::quantity::Quantity;
 use crate::reading::{Reading, Trouble, in_range};
 use grammar::Figure;
 
-// A plain type: a number or a trouble's number, and what lies outside their ranges reads as the blank.
+// A plain type: a number or a trouble's number, and what lies outside their ranges reads as the blank. It is no `Result`, whose `Err`
+// would be a bare number: any byte may stand in lent memory.
 #[derive(Clone, Copy)]
 pub enum QuantityRow {
     Number(i32),
@@ -35,24 +36,16 @@ impl Figure for Quantity {
 
     fn load(row: QuantityRow) -> Quantity {
         match row {
-            QuantityRow::Number(number) => {
-                if in_range(number as i64) {
-                    Quantity::number(number)
-                } else {
-                    Quantity::blank()
-                }
-            }
-            QuantityRow::Trouble(number) => match Trouble::from_number(number) {
-                Some(trouble) => Quantity::trouble(trouble),
-                None => Quantity::blank(),
-            },
+            QuantityRow::Number(number) if in_range(i64::from(number)) => Quantity::number(number),
+            QuantityRow::Number(_) => Quantity::blank(),
+            QuantityRow::Trouble(number) => Quantity::trouble(Trouble::try_from(number).unwrap_or(Trouble::Blank)),
         }
     }
 
     fn store(self) -> QuantityRow {
         match self.reading {
-            Reading::Number(number) => QuantityRow::Number(number),
-            Reading::Troubled(trouble) => QuantityRow::Trouble(trouble.number()),
+            Ok(number) => QuantityRow::Number(number),
+            Err(trouble) => QuantityRow::Trouble(u8::from(trouble)),
         }
     }
 }
