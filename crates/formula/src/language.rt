@@ -2,6 +2,7 @@
 ghost use Rattle.std.specs.Prelude.{◌≡◌};
 ghost use Rattle.formula.specs.Table.{formula_grammar, operation_of, formula_text, formula_rule};
 ghost use Rattle.formula.specs.Keeping.{formula_limits};
+ghost use Rattle.grammar.specs.Grammar.{arguments};
 
 use crate::operation::Operation;
 use crate::quantity::Quantity;
@@ -69,24 +70,34 @@ const OPEN: Piece = Piece::Fixed(b"(");
 
 const CLOSE: Piece = Piece::Fixed(b")");
 
-// The operation of the rule for a target, by production, place and attribute.
-fn operation(production: u8, target: Occurrence) -> Operation
-    ensures { result ≡ operation_of production target.place target.attribute }
+// A rule: the operation by which it computes, and the arguments that it takes.
+struct Rule {
+    operation: Operation,
+    arguments: &'static [Occurrence],
+}
+
+// The rule for a target, by production, place and attribute.
+fn rule(production: u8, target: Occurrence) -> Rule
+    ensures operation { result.operation ≡ operation_of production target.place target.attribute }
+    ensures arguments { result.arguments.now ≡ arguments formula_grammar production target.place target.attribute }
 {
-    match (production, target.place, target.attribute) {
-        (SHEET, 0, 0) => Operation::Same,
-        (SHEET, 1, 0) => Operation::Unbound,
-        (HOLE, 0, 1) => Operation::Hole,
-        (CONSTANT, 0, 1) => Operation::Literal,
-        (SUM, 0, 1) => Operation::Sum,
-        (DIFFERENCE, 0, 1) => Operation::Difference,
-        (PRODUCT, 0, 1) => Operation::Product,
-        (QUOTIENT, 0, 1) => Operation::Quotient,
-        (CHOOSE, 0, 1) => Operation::Choose,
-        (IT | LET, 0, 1) => Operation::Same,
-        (SUM..=LET, 1 | 2, 0) | (CHOOSE, 3, 0) => Operation::Same,
-        _ => Operation::Nothing,
-    }
+    let (operation, arguments): (Operation, &'static [Occurrence]) = match (production, target.place, target.attribute) {
+        (SHEET, 0, 0) => (Operation::Same, &[A]),
+        (SHEET, 1, 0) => (Operation::Unbound, &[]),
+        (HOLE, 0, 1) => (Operation::Hole, &[]),
+        (CONSTANT, 0, 1) => (Operation::Literal, &[]),
+        (IT, 0, 1) => (Operation::Same, &[BOUND]),
+        (SUM, 0, 1) => (Operation::Sum, &[A, B]),
+        (DIFFERENCE, 0, 1) => (Operation::Difference, &[A, B]),
+        (PRODUCT, 0, 1) => (Operation::Product, &[A, B]),
+        (QUOTIENT, 0, 1) => (Operation::Quotient, &[A, B]),
+        (CHOOSE, 0, 1) => (Operation::Choose, &[A, B, C]),
+        (LET, 0, 1) => (Operation::Same, &[B]),
+        (LET, 2, 0) => (Operation::Same, &[A]),
+        (SUM..=LET, 1 | 2, 0) | (CHOOSE, 3, 0) => (Operation::Same, &[BOUND]),
+        _ => (Operation::Nothing, &[]),
+    };
+    Rule { operation, arguments }
 }
 
 impl Language for Formula {
@@ -150,16 +161,7 @@ impl Language for Formula {
     }
 
     fn arguments(&self, production: u8, target: Occurrence) -> &[Occurrence] {
-        match (production, target.place, target.attribute) {
-            (SHEET, 0, 0) => &[A],
-            (IT, 0, 1) => &[BOUND],
-            (SUM..=QUOTIENT, 0, 1) => &[A, B],
-            (CHOOSE, 0, 1) => &[A, B, C],
-            (LET, 0, 1) => &[B],
-            (LET, 2, 0) => &[A],
-            (SUM..=CHOOSE, 1 | 2, 0) | (CHOOSE, 3, 0) | (LET, 1, 0) => &[BOUND],
-            _ => &[],
-        }
+        rule(production, target).arguments
     }
 
     fn evaluate(
@@ -169,7 +171,7 @@ impl Language for Formula {
         literal: i32,
         arguments: &Arguments<'_, QuantityRow>,
     ) -> Quantity {
-        operation(production, target).apply(literal, arguments)
+        rule(production, target).operation.apply(literal, arguments)
     }
 
     fn pieces(&self, production: u8) -> &[Piece] {

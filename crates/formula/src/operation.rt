@@ -30,20 +30,18 @@ impl Operation {
     pub fn apply(self, literal: i32, arguments: &Arguments<'_, QuantityRow>) -> Quantity
         ensures { result.reading ≡ gives self literal (meanings reading_of read blank arguments.now.rows.now arguments.now.at.now) }
     {
-        let a: Quantity = arguments.value(0);
-        let b: Quantity = arguments.value(1);
-        let c: Quantity = arguments.value(2);
+        let argument = |place: usize| -> Quantity { arguments.value(place) };
         match self {
             Operation::Nothing => Quantity::trouble(Trouble::Blank),
             Operation::Unbound => Quantity::trouble(Trouble::NothingBound),
             Operation::Hole => Quantity::trouble(Trouble::Hole),
             Operation::Literal => Quantity::number(literal),
-            Operation::Same => a,
-            Operation::Sum => rules::sum(a, b),
-            Operation::Difference => rules::difference(a, b),
-            Operation::Product => rules::product(a, b),
-            Operation::Quotient => rules::quotient(a, b),
-            Operation::Choose => rules::choose(a, b, c),
+            Operation::Same => argument(0),
+            Operation::Sum => rules::sum(argument(0), argument(1)).into(),
+            Operation::Difference => rules::difference(argument(0), argument(1)).into(),
+            Operation::Product => rules::product(argument(0), argument(1)).into(),
+            Operation::Quotient => rules::quotient(argument(0), argument(1)).into(),
+            Operation::Choose => rules::choose(argument(0), argument(1), argument(2)),
         }
     }
 }

@@ -31,7 +31,9 @@ impl Quantity {
     pub fn trouble(trouble: Trouble) -> Quantity
         ensures { result.reading ≡ Err trouble }
     {
-        Quantity::from(Err(trouble))
+        Quantity {
+            reading: Err(trouble),
+        }
     }
 }
 
@@ -40,11 +42,12 @@ impl From<Result<i64, Trouble>> for Quantity {
     ghost from_gives = { λ outcome quantity. quantity.reading ≡ within_range outcome };
 
     fn from(outcome: Result<i64, Trouble>) -> Quantity {
-        let reading = match outcome {
-            Ok(number) if in_range(number) => Ok(number as i32),
-            Ok(_) => Err(Trouble::OutOfRange),
-            Err(trouble) => Err(trouble),
-        };
-        Quantity { reading }
+        match outcome {
+            Ok(number) if in_range(number) => Quantity {
+                reading: Ok(number as i32),
+            },
+            Ok(_) => Quantity::trouble(Trouble::OutOfRange),
+            Err(trouble) => Quantity::trouble(trouble),
+        }
     }
 }
