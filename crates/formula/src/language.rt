@@ -70,18 +70,12 @@ const OPEN: Piece = Piece::Fixed(b"(");
 
 const CLOSE: Piece = Piece::Fixed(b")");
 
-// A rule: the operation by which it computes, and the arguments that it takes.
-struct Rule {
-    operation: Operation,
-    arguments: &'static [Occurrence],
-}
-
-// The rule for a target, by production, place and attribute.
-fn rule(production: u8, target: Occurrence) -> Rule
-    ensures operation { result.operation ≡ operation_of production target.place target.attribute }
-    ensures arguments { result.arguments.now ≡ arguments formula_grammar production target.place target.attribute }
+// The rule for a target, by production, place and attribute: the operation by which it computes, and the arguments that it takes.
+fn rule(production: u8, target: Occurrence) -> (Operation, &'static [Occurrence])
+    ensures operation { result.0 ≡ operation_of production target.place target.attribute }
+    ensures arguments { result.1.now ≡ arguments formula_grammar production target.place target.attribute }
 {
-    let (operation, arguments): (Operation, &'static [Occurrence]) = match (production, target.place, target.attribute) {
+    match (production, target.place, target.attribute) {
         (SHEET, 0, 0) => (Operation::Same, &[A]),
         (SHEET, 1, 0) => (Operation::Unbound, &[]),
         (HOLE, 0, 1) => (Operation::Hole, &[]),
@@ -96,8 +90,7 @@ fn rule(production: u8, target: Occurrence) -> Rule
         (LET, 2, 0) => (Operation::Same, &[A]),
         (SUM..=LET, 1 | 2, 0) | (CHOOSE, 3, 0) => (Operation::Same, &[BOUND]),
         _ => (Operation::Nothing, &[]),
-    };
-    Rule { operation, arguments }
+    }
 }
 
 impl Language for Formula {
@@ -161,7 +154,8 @@ impl Language for Formula {
     }
 
     fn arguments(&self, production: u8, target: Occurrence) -> &[Occurrence] {
-        rule(production, target).arguments
+        let (_, arguments) = rule(production, target);
+        arguments
     }
 
     fn evaluate(
@@ -171,7 +165,8 @@ impl Language for Formula {
         literal: i32,
         arguments: &Arguments<'_, QuantityRow>,
     ) -> Quantity {
-        rule(production, target).operation.apply(literal, arguments)
+        let (operation, _) = rule(production, target);
+        operation.apply(literal, arguments)
     }
 
     fn pieces(&self, production: u8) -> &[Piece] {

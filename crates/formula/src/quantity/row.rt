@@ -38,7 +38,9 @@ impl Figure for Quantity {
         match row {
             QuantityRow::Number(number) if in_range(i64::from(number)) => Quantity::number(number),
             QuantityRow::Number(_) => Quantity::blank(),
-            QuantityRow::Trouble(number) => Quantity::trouble(Trouble::try_from(number).unwrap_or(Trouble::Blank)),
+            QuantityRow::Trouble(number) => Quantity::trouble(Trouble::try_from(number).unwrap_or(
+                Trouble::Blank,
+            )),
         }
     }
 
