@@ -34,9 +34,9 @@ abbrev pub number_or_trouble : ℤ → Reading
 number_or_trouble n = cond (in_range n) (Ok n) (Err OutOfRange)
 
 -- the reading of what comes of a computation: a number outside the range is trouble
-abbrev pub within_range : Result ℤ Trouble → Reading
-within_range (Ok n) = number_or_trouble n
-within_range (Err t) = Err t
+abbrev pub as_reading : Result ℤ Trouble → Reading
+as_reading (Ok n) = number_or_trouble n
+as_reading (Err t) = Err t
 
 -- what stands where there is nothing
 abbrev pub blank : Reading

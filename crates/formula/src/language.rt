@@ -1,8 +1,8 @@
 // The language of price formulas: the table, the operation of each rule, and the text of each production.
 ghost use Rattle.std.specs.Prelude.{◌≡◌};
+ghost use Rattle.grammar.specs.Grammar.{arguments};
 ghost use Rattle.formula.specs.Table.{formula_grammar, operation_of, formula_text, formula_rule};
 ghost use Rattle.formula.specs.Keeping.{formula_limits};
-ghost use Rattle.grammar.specs.Grammar.{arguments};
 
 use crate::operation::Operation;
 use crate::quantity::Quantity;
@@ -13,7 +13,7 @@ use grammar::{Arguments, Language, Occurrence, Piece};
 #[derive(Clone, Copy)]
 pub struct Formula;
 
-// The productions.
+// The productions: plain numbers, since the questions are asked of every byte and have an answer past the last production too.
 const SHEET: u8 = 0;
 
 const HOLE: u8 = 1;
@@ -34,7 +34,9 @@ const CHOOSE: u8 = 8;
 
 const LET: u8 = 9;
 
-// The symbol of expressions; that of sheets is 0.
+// The symbols: sheets and expressions.
+const S: u8 = 0;
+
 const E: u8 = 1;
 
 // The arguments of the rules: what an expression has bound to it, and the values of the children. An expression's attribute 0 is what is
@@ -125,14 +127,14 @@ impl Language for Formula {
 
     fn synthesized(&self, symbol: u8) -> u8 {
         match symbol {
-            0 | E => 1,
+            S | E => 1,
             _ => 0,
         }
     }
 
     fn symbol(&self, production: u8) -> u8 {
         match production {
-            SHEET => 0,
+            SHEET => S,
             _ => E,
         }
     }

@@ -1,6 +1,6 @@
 // The figure of price formulas: a reading whose number, where it is one, lies in the range. There is no figure outside.
 ghost use Rattle.std.specs.Prelude.{◌≡◌, T};
-ghost use Rattle.formula.specs.Readings.{lawful, within_range};
+ghost use Rattle.formula.specs.Readings.{lawful, number_or_trouble, as_reading};
 
 pub mod row;
 
@@ -22,7 +22,7 @@ impl Quantity {
 
     // The figure of a number, trouble where the number lies outside the range.
     pub fn number(number: i32) -> Quantity
-        ensures { result.reading ≡ within_range (Ok number) }
+        ensures { result.reading ≡ number_or_trouble number }
     {
         Quantity::from(Ok(i64::from(number)))
     }
@@ -39,7 +39,7 @@ impl Quantity {
 
 // The figure of what comes of a computation: a number outside the range is trouble.
 impl From<Result<i64, Trouble>> for Quantity {
-    ghost from_gives = { λ outcome quantity. quantity.reading ≡ within_range outcome };
+    ghost from_gives = { λ outcome quantity. quantity.reading ≡ as_reading outcome };
 
     fn from(outcome: Result<i64, Trouble>) -> Quantity {
         match outcome {

@@ -1,7 +1,6 @@
 // What the rules of price formulas compute: each is a small function of figures.
-ghost use Rattle.std.specs.Prelude.{◌≡◌, IfOk};
-ghost use Rattle.grammar.specs.Limits.{Lawful};
-ghost use Rattle.formula.specs.Readings.{within_range};
+ghost use Rattle.std.specs.Prelude.{◌≡◌};
+ghost use Rattle.formula.specs.Readings.{as_reading};
 ghost use Rattle.formula.specs.Rules.{numbers as numbers_of, sum as sum_of, difference as difference_of, product as product_of, quotient as quotient_of, choose as choice_of};
 
 use crate::quantity::Quantity;
@@ -9,28 +8,27 @@ use crate::reading::Trouble;
 
 // Both numbers, or the first trouble.
 fn numbers(a: Quantity, b: Quantity) -> Result<(i64, i64), Trouble>
-    ensures value { result ≡ numbers_of a.reading b.reading }
-    ensures in_range { IfOk result (λ n. Lawful n.0 × Lawful n.1) }
+    ensures { result ≡ numbers_of a.reading b.reading }
 {
     Ok((i64::from(a.reading()?), i64::from(b.reading()?)))
 }
 
 pub(crate) fn sum(a: Quantity, b: Quantity) -> Result<i64, Trouble>
-    ensures { within_range result ≡ sum_of a.reading b.reading }
+    ensures { as_reading result ≡ sum_of a.reading b.reading }
 {
     let (x, y) = numbers(a, b)?;
     Ok(x + y)
 }
 
 pub(crate) fn difference(a: Quantity, b: Quantity) -> Result<i64, Trouble>
-    ensures { within_range result ≡ difference_of a.reading b.reading }
+    ensures { as_reading result ≡ difference_of a.reading b.reading }
 {
     let (x, y) = numbers(a, b)?;
     Ok(x - y)
 }
 
 pub(crate) fn product(a: Quantity, b: Quantity) -> Result<i64, Trouble>
-    ensures { within_range result ≡ product_of a.reading b.reading }
+    ensures { as_reading result ≡ product_of a.reading b.reading }
 {
     let (x, y) = numbers(a, b)?;
     Ok(x * y)
@@ -38,7 +36,7 @@ pub(crate) fn product(a: Quantity, b: Quantity) -> Result<i64, Trouble>
 
 // The fraction is dropped toward zero.
 pub(crate) fn quotient(a: Quantity, b: Quantity) -> Result<i64, Trouble>
-    ensures { within_range result ≡ quotient_of a.reading b.reading }
+    ensures { as_reading result ≡ quotient_of a.reading b.reading }
 {
     let (x, y) = numbers(a, b)?;
     x.checked_div(y).ok_or(Trouble::ZeroDivisor)
