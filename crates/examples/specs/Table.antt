@@ -6,8 +6,7 @@ use Rattle.circularity.specs.declared.Passes.{Passes}
 use Rattle.circularity.specs.declared.fault.LanguageFault.{LanguageFault}
 use Rattle.circularity.specs.declared.fault.LanguageFault.TheVariants.{Circularity}
 use Rattle.circularity.specs.Verdict.{Verdict}
-use Rattle.formula.specs.declared.reading.Reading.{Reading}
-use Rattle.formula.specs.declared.reading.Reading.TheVariants.{Number}
+use Rattle.formula.specs.Readings.{Reading}
 
 -- A test of the table answers a pass with this many relations, and every run of it does.
 pub record PassesWith (g : Grammar) (relations : ℕ) : Type 0 where
@@ -26,4 +25,4 @@ pub record Examples (formula plan altered : Grammar) (rule : ℕ → ℕ → ℕ
   pub formula_passes : PassesWith formula 3
   pub plan_passes : PassesWith plan 6
   pub altered_plan_refused : RefusedNaming altered 0 5
-  pub minus_seven_by_two : rule 7 0 1 (pos 0) (Number (negsuc 6) ∷ Number (pos 2) ∷ []) ≡ Number (negsuc 2)
+  pub minus_seven_by_two : rule 7 0 1 (pos 0) (Ok (negsuc 6) ∷ Ok (pos 2) ∷ []) ≡ Ok (negsuc 2)
