@@ -11,4 +11,4 @@ mod rules;
 pub use language::Formula;
 pub use quantity::Quantity;
 pub use quantity::row::QuantityRow;
-pub use reading::{Reading, Trouble};
+pub use reading::{Reading, Trouble, UnknownTrouble};

@@ -6,7 +6,7 @@ pub mod row;
 
 use crate::reading::{Reading, Trouble, in_range};
 
-#[derive(Clone, Copy)]
+#[derive(Clone, Copy, PartialEq, Eq)]
 pub struct Quantity {
     reading: Reading,
     ghost within: { T (lawful reading) },

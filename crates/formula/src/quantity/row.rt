@@ -31,7 +31,7 @@ impl Figure for Quantity {
     }
 
     fn same(self, other: Quantity) -> bool {
-        self.reading == other.reading
+        self == other
     }
 
     fn load(row: QuantityRow) -> Quantity {
