@@ -25,7 +25,7 @@ abbrev pub lawful : Reading → Bool
 lawful (Ok n) = in_range n
 lawful (Err t) = nat_le (trouble_number t) 4
 
--- the trouble that goes by a number, if any does
+-- the trouble that goes by a number, or the number back where none does
 abbrev pub numbered_trouble : ℕ → Result Trouble UnknownTrouble
 numbered_trouble k = slice_index_or (Ok Blank ∷ Ok Hole ∷ Ok OutOfRange ∷ Ok ZeroDivisor ∷ Ok NothingBound ∷ []) k (Err (record { 0 = k }))
 

@@ -1,4 +1,4 @@
-// The language of price formulas: the table, the operation of each rule, and the text of each production.
+// The language of price formulas: the table, with the operation of each rule, and the text of each production.
 ghost use Rattle.std.specs.Prelude.{◌≡◌};
 ghost use Rattle.grammar.specs.Grammar.{arguments};
 ghost use Rattle.formula.specs.Table.{formula_grammar, operation_of, formula_text, formula_rule};

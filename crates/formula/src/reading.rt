@@ -11,6 +11,7 @@ pub enum Trouble {
     NothingBound,
 }
 
+// A trouble is the error of a reading, so that `?` hands it on.
 pub type Reading = Result<i32, Trouble>;
 
 // The largest number; the smallest is its opposite.

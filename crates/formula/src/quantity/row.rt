@@ -7,8 +7,8 @@ use crate::quantity::Quantity;
 use crate::reading::{Reading, Trouble, in_range};
 use grammar::Figure;
 
-// A plain type: a number or a trouble's number, and what lies outside their ranges reads as the blank. It is no `Result`, whose `Err`
-// would be a bare number: any byte may stand in lent memory.
+// A plain type: a number or a trouble's number, and what lies outside their ranges reads as the blank. Any byte
+// may stand in lent memory, so a `Result` here would have a bare number for its error.
 #[derive(Clone, Copy)]
 pub enum QuantityRow {
     Number(i32),
