@@ -37,15 +37,6 @@ word_lt entries small (suc n) =
     let more = mul-le (entries n) (2 ^ (2 * n)) 3 (2 ^ (2 * n)) three (omega arith) in
     omega arith
 
-power_below : (n : ℕ) → n < 32 → 4 * 2 ^ (2 * n) ≤ 2 ^ 64
-power_below n h =
-    let e : (64 - 2 * n - 2) + (2 + 2 * n) ≡ 64 = omega arith in
-    let whole : 2 ^ 64 ≡ 2 ^ (64 - 2 * n - 2) * 2 ^ (2 + 2 * n) = ap (λ k. 2 ^ k) (sym e) ∙ pow-add 2 (64 - 2 * n - 2) (2 + 2 * n) in
-    let positive = pow_pos (64 - 2 * n - 2) in
-    let more = mul-le 1 (2 ^ (2 + 2 * n)) (2 ^ (64 - 2 * n - 2)) (2 ^ (2 + 2 * n)) (omega arith) (omega arith) in
-    let four = pow-add 2 2 (2 * n) in
-    omega arith
-
 -- an entry past the last name
 pub no_name : (scope name : ℕ) → scope < 2 ^ 64 → 32 ≤ name → 0 ≡ entry scope name
 no_name scope name fits past =
