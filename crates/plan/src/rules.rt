@@ -10,14 +10,14 @@ use crate::scope::Scope;
 const NO_NAME: u32 = 128;
 
 // The number that a literal stands for.
-pub(crate) fn number_of(literal: i32) -> u32
+fn number_of(literal: i32) -> u32
     ensures { result ≡ literal_number literal }
 {
     u32::try_from(literal).unwrap_or(NO_NAME)
 }
 
 // The number of the type that a declaration's literal gives to its name.
-pub(crate) fn type_number(literal: i32) -> u8
+fn type_number(literal: i32) -> u8
     ensures { (result ≡ declared_type literal) × (result < 4) }
 {
     (number_of(literal) % 4) as u8
