@@ -55,7 +55,7 @@ impl From<u8> for PlanType {
 }
 
 impl PlanFigure {
-    // The scope that a rule reads: a figure of another kind reads as the scope 0.
+    // The scope that a rule reads: a figure of another kind reads as the scope that has no names.
     pub fn scope(self) -> Scope
         ensures { result ≡ scope_in self }
     {

@@ -114,6 +114,7 @@ impl Language for Plan {
         literal: i32,
         arguments: &Arguments<'_, PlanRow>,
     ) -> PlanFigure {
+        // argument k of the rule, the blank where there is none
         let argument = |k: usize| -> PlanFigure { arguments.value(k) };
         match (production, target.place, target.attribute) {
             (PLAN | BLOCK, FIRST, STEP_IN) => PlanFigure::Scope(Scope::EMPTY),
