@@ -1,13 +1,15 @@
 -- Words made of entries: they fit, an entry can be read back, and a word is told by its entries.
-use Rattle.std.proofs.Common.{◌≡◌, ℕ, zero, suc, ◌+◌, ◌-◌, ◌*◌, ◌/◌, ◌%◌, ◌^◌, ◌<◌, ◌≤◌, Bool, true, false, cond, eqb, sym, refl, ap, ◌∙◌, subst, ⊎_elim, mod-eq_of_lt, mul_assoc, mul_comm, add-one, arith, w64, Fits}
+use Rattle.std.proofs.Common.{map-id, ◌≡◌, ℕ, zero, suc, ◌+◌, ◌-◌, ◌*◌, ◌/◌, ◌%◌, ◌^◌, ◌<◌, ◌≤◌, Bool, true, false, cond, eqb, sym, refl, ap, ◌∙◌, subst, ⊎_elim, mod-eq_of_lt, mul_assoc, mul_comm, add-one, arith, bit_and, bit_or}
 use native.Mathlib.Nat.{div-eq_of_lt, add-mul-mod_self_left}
 use Rattle.std.proofs.lemmas.Bool.{cases_lt}
-use Rattle.std.proofs.lemmas.Nat.{pow-add, pow_pos, shl_whole, mod_below, mul-le, field_of, mod-pow-add, shr_high}
-use Rattle.plan.specs.Scope.{entry, word, entry_declared, entry_overlaid}
-
--- each entry is 0, 1, 2 or 3
-abbrev pub Small : (ℕ → ℕ) → Type 0
-Small entries = (k : ℕ) → entries k < 4
+use Rattle.std.proofs.lemmas.Nat.{and_block, or_disjoint, pow-add, pow_pos, shl_whole, mod_below, mul-le, field_of, mod-pow-add, shr_high}
+use Rattle.std.proofs.iter.Yields.{nat_range_steps, Range-gives, gives_Drains}
+use Rattle.std.proofs.iter.runs.Made.{took}
+use Rattle.std.specs.Int.Bits.{and_zero_l, and_zero_r}
+use Rattle.std.specs.Iterator.Runs.{Run}
+use Rattle.std.specs.declared.ops.Range.{Range}
+use Rattle.std.specs.List.{fold, range_with_len}
+use Rattle.plan.specs.Scope.{entry, word, Small, entry_declared, entry_overlaid}
 
 pub entry_small : (scope : ℕ) → Small (entry scope)
 entry_small scope k = mod_below (scope / 2 ^ (2 * k)) 4 (omega arith)
@@ -35,15 +37,6 @@ word_lt entries small (suc n) =
     let more = mul-le (entries n) (2 ^ (2 * n)) 3 (2 ^ (2 * n)) three (omega arith) in
     omega arith
 
-power_below : (n : ℕ) → n < 32 → 4 * 2 ^ (2 * n) ≤ 2 ^ 64
-power_below n h =
-    let e : (64 - 2 * n - 2) + (2 + 2 * n) ≡ 64 = omega arith in
-    let whole : 2 ^ 64 ≡ 2 ^ (64 - 2 * n - 2) * 2 ^ (2 + 2 * n) = ap (λ k. 2 ^ k) (sym e) ∙ pow-add 2 (64 - 2 * n - 2) (2 + 2 * n) in
-    let positive = pow_pos (64 - 2 * n - 2) in
-    let more = mul-le 1 (2 ^ (2 + 2 * n)) (2 ^ (64 - 2 * n - 2)) (2 ^ (2 + 2 * n)) (omega arith) (omega arith) in
-    let four = pow-add 2 2 (2 * n) in
-    omega arith
-
 -- an entry past the last name
 pub no_name : (scope name : ℕ) → scope < 2 ^ 64 → 32 ≤ name → 0 ≡ entry scope name
 no_name scope name fits past =
@@ -55,18 +48,41 @@ no_name scope name fits past =
     let less : scope < 2 ^ (2 * name) = omega arith in
     sym (ap (λ q. q % 4) (div-eq_of_lt less))
 
--- One entry more in a loop over the names: the shift loses nothing, the sum fits, and it is the longer word.
-module _ (entries : ℕ → ℕ) (small : Small entries) (result after k : ℕ) (h : k < 32) (so_far : result ≡ word entries k) (one_more : after ≡ entries k) where
-  shifted : (after * 2 ^ (2 * k)) % 2 ^ 64 ≡ entries k * 2 ^ (2 * k)
-  shifted = ap (λ e. (e * 2 ^ (2 * k)) % 2 ^ 64) one_more ∙ shl_whole (entries k) 2 (2 * k) 64 (small k) (omega arith)
+-- a word with one entry more, as the code makes it
+abbrev pub with_entry : (ℕ → ℕ) → ℕ → ℕ → ℕ
+with_entry entries w k = bit_or w ((entries k * 2 ^ (2 * k)) % 2 ^ 64)
 
-  pub sum_fits : Fits w64 (result + (after * 2 ^ (2 * k)) % 2 ^ 64)
-  sum_fits =
-      let whole : word entries k + entries k * 2 ^ (2 * k) < 2 ^ (2 * suc k) = word_lt entries small (suc k) in
-      record { fits = omega (arith, shifted, power_below k h, next_power k) }
+-- the fields of two entries share no bit, and the shift loses nothing
+one_more : (entries : ℕ → ℕ) → Small entries → (k : ℕ) → k < 32 → with_entry entries (word entries k) k ≡ word entries (k + 1)
+one_more entries small k h =
+    let w = word entries k in
+    let field = entries k * 2 ^ (2 * k) in
+    let high : field + 0 ≡ field = omega arith in
+    let low : 0 * 2 ^ (2 * k) + w ≡ w = omega arith in
+    let none : bit_and 0 (entries k) * 2 ^ (2 * k) + bit_and w 0 ≡ 0 = omega (arith, and_zero_l (entries k), and_zero_r w) in
+    let apart : bit_and w field ≡ 0 = cc (and_block (2 * k) 0 (entries k) w 0 (word_lt entries small k) (pow_pos (2 * k))) in
+    ap (bit_or (word entries k)) (shl_whole (entries k) 2 (2 * k) 64 (small k) (omega arith))
+    ∙ or_disjoint (word entries k) (entries k * 2 ^ (2 * k)) apart
+    ∙ ap (word entries) (sym (add-one k))
 
-  pub longer : result + (after * 2 ^ (2 * k)) % 2 ^ 64 ≡ word entries (k + 1)
-  longer = let e : result + (after * 2 ^ (2 * k)) % 2 ^ 64 ≡ word entries (suc k) = cc (so_far, shifted) in rw add-one e
+-- the words that a fold over the names makes
+folded_from : (entries : ℕ → ℕ) → Small entries → (n k : ℕ) → k + n ≤ 32 → fold (with_entry entries) (word entries k) (range_with_len k n) ≡ word entries (k + n)
+folded_from entries small zero k h = ap (word entries) (omega arith)
+folded_from entries small (suc n) k h =
+    let e : (k + 1) + n ≡ k + suc n = omega arith in
+    ap (λ w. fold (with_entry entries) w (range_with_len (k + 1) n)) (one_more entries small k (omega arith))
+    ∙ folded_from entries small n (k + 1) (omega arith)
+    ∙ ap (word entries) e
+
+pub folded : (entries : ℕ → ℕ) → Small entries → fold (with_entry entries) 0 (range_with_len 0 32) ≡ word entries 32
+folded entries small = folded_from entries small 32 0 (omega arith)
+
+-- the items of a range, all of them
+pub range_items : (p : Run nat_range_steps) (a b : ℕ) → p.from ≡ record { start = a; end = b } → p.whole ≡ true → p.items ≡ range_with_len a (b - a)
+range_items p a b from whole =
+    let last = (took p).2 whole in
+    let all = gives_Drains nat_range_steps (λ x. x) p.items _ p.from (Range-gives p.from) (last.0, ((took p).0, (took p).1, last.1)) in
+    sym (map-id p.items) ∙ all ∙ ap (λ (s : Range ℕ). range_with_len s.start (s.end - s.start)) from
 
 -- an entry is told by the lower part of a word
 lower_part : (scope k : ℕ) → entry scope k ≡ scope % 2 ^ (2 + 2 * k) / 2 ^ (2 * k)

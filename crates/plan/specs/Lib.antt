@@ -3,4 +3,3 @@ pub mod Figures
 pub mod Rules
 pub mod Table
 pub mod TableLimits
-pub mod Arguments

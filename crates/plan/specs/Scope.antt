@@ -15,6 +15,14 @@ word entries (suc n) = word entries n + entries n * 2 ^ (2 * n)
 unfoldable pub scope_of : (ℕ → ℕ) → ℕ
 scope_of entries = word entries 32
 
+-- each entry is 0, 1, 2 or 3
+abbrev pub Small : (ℕ → ℕ) → Type 0
+Small entries = (k : ℕ) → entries k < 4
+
+-- A function of names, by its possible answers, gives these entries.
+abbrev pub Gives : (ℕ → ℕ → Type 0) → (ℕ → ℕ) → Type 0
+Gives answer entries = (k e : ℕ) → answer k e → e ≡ entries k
+
 -- The entries after a name is declared with a type: its own is the type if it was 0, else 3; every other is as it was.
 abbrev pub entry_declared : ℕ → ℕ → ℕ → ℕ → ℕ
 entry_declared scope name type_number k = cond (k == name) (cond (entry scope k == 0) type_number 3) (entry scope k)

@@ -8,8 +8,7 @@ use crate::language::Plan;
 use crate::numbers::{DECLARATION, FIRST_TYPE, IN, OWN, STEP_OUT};
 use grammar::{Arguments, Language, Occurrence, Piece};
 
-static PLAIN: Plan = Plan;
-
+// It differs from the plan in one answer; an impl gives every method, so each of the others asks the plan.
 pub struct AlteredPlan;
 
 impl Language for AlteredPlan {
@@ -28,37 +27,37 @@ impl Language for AlteredPlan {
     ghost limits = { λ plan. altered_limits };
 
     fn symbols(&self) -> u8 {
-        PLAIN.symbols()
+        Plan.symbols()
     }
 
     fn productions(&self) -> u8 {
-        PLAIN.productions()
+        Plan.productions()
     }
 
     fn inherited(&self, symbol: u8) -> u8 {
-        PLAIN.inherited(symbol)
+        Plan.inherited(symbol)
     }
 
     fn synthesized(&self, symbol: u8) -> u8 {
-        PLAIN.synthesized(symbol)
+        Plan.synthesized(symbol)
     }
 
     fn symbol(&self, production: u8) -> u8 {
-        PLAIN.symbol(production)
+        Plan.symbol(production)
     }
 
     fn children(&self, production: u8) -> &[u8] {
-        PLAIN.children(production)
+        Plan.children(production)
     }
 
     fn accepts(&self, production: u8, literal: i32) -> bool {
-        PLAIN.accepts(production, literal)
+        Plan.accepts(production, literal)
     }
 
     fn arguments(&self, production: u8, target: Occurrence) -> &[Occurrence] {
         match (production, target.place, target.attribute) {
             (DECLARATION, OWN, STEP_OUT) => &[IN, FIRST_TYPE],
-            _ => PLAIN.arguments(production, target),
+            _ => Plan.arguments(production, target),
         }
     }
 
@@ -69,10 +68,10 @@ impl Language for AlteredPlan {
         literal: i32,
         arguments: &Arguments<'_, PlanRow>,
     ) -> PlanFigure {
-        PLAIN.evaluate(production, target, literal, arguments)
+        Plan.evaluate(production, target, literal, arguments)
     }
 
     fn pieces(&self, production: u8) -> &[Piece] {
-        PLAIN.pieces(production)
+        Plan.pieces(production)
     }
 }

@@ -3,6 +3,7 @@ ghost use Rattle.std.specs.Prelude.{◌≡◌, ℕ, true};
 ghost use Rattle.plan.specs.declared.figure.PlanType.{PlanType};
 ghost use Rattle.plan.specs.Figures.{number_of_type, type_of_number, blank_figure, read_row, scope_in, type_in, count_in};
 
+use crate::scope::Scope;
 use grammar::Figure;
 
 #[derive(Clone, Copy, PartialEq, Eq)]
@@ -15,7 +16,7 @@ pub enum PlanType {
 // The value of one attribute at one node. Different cases are different values, also where they hold the same number.
 #[derive(Clone, Copy, PartialEq, Eq)]
 pub enum PlanFigure {
-    Scope(u64),
+    Scope(Scope),
     Type(PlanType),
     Count(u16),
 }
@@ -28,21 +29,23 @@ pub enum PlanRow {
     Count(u16),
 }
 
-impl PlanType {
-    pub fn number(self) -> u8
-        ensures { result ≡ number_of_type self }
-    {
-        match self {
+impl From<PlanType> for u8 {
+    ghost from_gives = { λ type_of number. number ≡ number_of_type type_of };
+
+    fn from(type_of: PlanType) -> u8 {
+        match type_of {
             PlanType::Unknown => 0,
             PlanType::Number => 1,
             PlanType::Truth => 2,
         }
     }
+}
 
-    // A number that is no type's stands for the unknown type.
-    pub fn of_number(number: u8) -> PlanType
-        ensures { result ≡ type_of_number number }
-    {
+// A number that is no type's stands for the unknown type.
+impl From<u8> for PlanType {
+    ghost from_gives = { λ number type_of. type_of ≡ type_of_number number };
+
+    fn from(number: u8) -> PlanType {
         match number {
             1 => PlanType::Number,
             2 => PlanType::Truth,
@@ -52,13 +55,13 @@ impl PlanType {
 }
 
 impl PlanFigure {
-    // The scope that a rule reads: a figure of another kind reads as the scope 0.
-    pub fn scope(self) -> u64
+    // The scope that a rule reads: a figure of another kind reads as the scope that has no names.
+    pub fn scope(self) -> Scope
         ensures { result ≡ scope_in self }
     {
         match self {
             PlanFigure::Scope(scope) => scope,
-            _ => 0,
+            _ => Scope::EMPTY,
         }
     }
 
@@ -104,16 +107,16 @@ impl Figure for PlanFigure {
 
     fn load(row: PlanRow) -> PlanFigure {
         match row {
-            PlanRow::Scope(scope) => PlanFigure::Scope(scope),
-            PlanRow::Type(number) => PlanFigure::Type(PlanType::of_number(number)),
+            PlanRow::Scope(word) => PlanFigure::Scope(Scope { word }),
+            PlanRow::Type(number) => PlanFigure::Type(PlanType::from(number)),
             PlanRow::Count(count) => PlanFigure::Count(count),
         }
     }
 
     fn store(self) -> PlanRow {
         match self {
-            PlanFigure::Scope(scope) => PlanRow::Scope(scope),
-            PlanFigure::Type(type_of) => PlanRow::Type(type_of.number()),
+            PlanFigure::Scope(scope) => PlanRow::Scope(scope.word),
+            PlanFigure::Type(type_of) => PlanRow::Type(u8::from(type_of)),
             PlanFigure::Count(count) => PlanRow::Count(count),
         }
     }

@@ -3,7 +3,6 @@ ghost use Rattle.std.specs.Prelude.{◌≡◌};
 ghost use Rattle.plan.specs.Table.{plan_grammar, plan_rule, plan_text};
 ghost use Rattle.plan.specs.TableLimits.{plan_limits};
 
-use crate::arguments::{read_count, read_scope, read_type};
 use crate::figure::{PlanFigure, PlanRow, PlanType};
 use crate::numbers::{
     BLOCK, CHAIN, DECLARATION, ENV, ENV_OF_TERM, FIRST, FIRST_BAD, FIRST_OUT, FIRST_TERM_BAD,
@@ -11,9 +10,9 @@ use crate::numbers::{
     SECOND_TERM_BAD, SECOND_TYPE, STEP, STEP_BAD, STEP_ENV, STEP_HOLE, STEP_IN, STEP_OUT, TERM,
     TERM_BAD, TERM_ENV, TERM_HOLE, TERM_TYPE,
 };
-use crate::rules::{comparison_bad, declaration_bad, name_bad, scope_after, sum, type_of_name};
-use crate::scope::overlay;
-use grammar::{Arguments, Language, Occurrence, Piece};
+use crate::rules::{comparison_bad, declaration_bad, scope_after, type_of_name};
+use crate::scope::Scope;
+use grammar::{Arguments, Figure, Language, Occurrence, Piece};
 
 // The language of session plans.
 pub struct Plan;
@@ -78,9 +77,9 @@ impl Language for Plan {
     fn accepts(&self, production: u8, literal: i32) -> bool {
         match production {
             PLAN | STEP_HOLE | TERM_HOLE | CHAIN | BLOCK | LESS => literal == 0,
-            DECLARATION => literal >= 0 && literal < 128 && (literal % 4 == 1 || literal % 4 == 2),
-            NUMBER => literal >= -1_000_000_000 && literal <= 1_000_000_000,
-            NAME => literal >= 0 && literal < 32,
+            DECLARATION => (0..128).contains(&literal) && matches!(literal % 4, 1 | 2),
+            NUMBER => (-1_000_000_000..=1_000_000_000).contains(&literal),
+            NAME => (0..32).contains(&literal),
             _ => false,
         }
     }
@@ -115,57 +114,53 @@ impl Language for Plan {
         literal: i32,
         arguments: &Arguments<'_, PlanRow>,
     ) -> PlanFigure {
+        // argument k of the rule, the blank where there is none
+        let argument = |k: usize| -> PlanFigure { arguments.value(k) };
         match (production, target.place, target.attribute) {
-            (PLAN | BLOCK, FIRST, STEP_IN) => PlanFigure::Scope(0),
-            (PLAN, FIRST, STEP_ENV) => PlanFigure::Scope(read_scope(arguments, 0)),
-            (PLAN, OWN, PLAN_BAD) => PlanFigure::Count(read_count(arguments, 0)),
-            (STEP_HOLE, OWN, STEP_OUT) => PlanFigure::Scope(read_scope(arguments, 0)),
+            (PLAN | BLOCK, FIRST, STEP_IN) => PlanFigure::Scope(Scope::EMPTY),
+            (PLAN, FIRST, STEP_ENV) => PlanFigure::Scope(argument(0).scope()),
+            (PLAN, OWN, PLAN_BAD) => PlanFigure::Count(argument(0).count()),
+            (STEP_HOLE, OWN, STEP_OUT) => PlanFigure::Scope(argument(0).scope()),
             (STEP_HOLE, OWN, STEP_BAD) => PlanFigure::Count(0),
             (TERM_HOLE, OWN, TERM_TYPE) => PlanFigure::Type(PlanType::Unknown),
             (TERM_HOLE, OWN, TERM_BAD) => PlanFigure::Count(0),
-            (CHAIN, FIRST | SECOND, STEP_IN | STEP_ENV) => PlanFigure::Scope(read_scope(
-                arguments, 0,
-            )),
-            (CHAIN, OWN, STEP_OUT) => PlanFigure::Scope(read_scope(arguments, 0)),
-            (CHAIN, OWN, STEP_BAD) => PlanFigure::Count(sum(
-                read_count(arguments, 0),
-                read_count(arguments, 1),
-            )),
-            (DECLARATION, FIRST, TERM_ENV) => PlanFigure::Scope(read_scope(arguments, 0)),
-            (DECLARATION, OWN, STEP_OUT) => PlanFigure::Scope(scope_after(
-                read_scope(arguments, 0),
-                literal,
-            )),
+            (CHAIN, FIRST | SECOND, STEP_IN | STEP_ENV) => PlanFigure::Scope(argument(0).scope()),
+            (CHAIN, OWN, STEP_OUT) => PlanFigure::Scope(argument(0).scope()),
+            (CHAIN, OWN, STEP_BAD) => {
+                PlanFigure::Count(argument(0).count().saturating_add(argument(1).count()))
+            }
+            (DECLARATION, FIRST, TERM_ENV) => PlanFigure::Scope(argument(0).scope()),
+            (DECLARATION, OWN, STEP_OUT) => {
+                PlanFigure::Scope(scope_after(argument(0).scope(), literal))
+            }
             (DECLARATION, OWN, STEP_BAD) => PlanFigure::Count(declaration_bad(
-                read_type(arguments, 0),
-                read_count(arguments, 1),
+                argument(0).type_of(),
+                argument(1).count(),
                 literal,
             )),
-            (BLOCK, FIRST, STEP_ENV) => PlanFigure::Scope(overlay(
-                read_scope(arguments, 0),
-                read_scope(arguments, 1),
-            )),
-            (BLOCK, OWN, STEP_OUT) => PlanFigure::Scope(read_scope(arguments, 0)),
-            (BLOCK, OWN, STEP_BAD) => PlanFigure::Count(read_count(arguments, 0)),
+            (BLOCK, FIRST, STEP_ENV) => {
+                PlanFigure::Scope(argument(0).scope().over(argument(1).scope()))
+            }
+            (BLOCK, OWN, STEP_OUT) => PlanFigure::Scope(argument(0).scope()),
+            (BLOCK, OWN, STEP_BAD) => PlanFigure::Count(argument(0).count()),
             (NUMBER, OWN, TERM_TYPE) => PlanFigure::Type(PlanType::Number),
             (NUMBER, OWN, TERM_BAD) => PlanFigure::Count(0),
-            (NAME, OWN, TERM_TYPE) => PlanFigure::Type(type_of_name(
-                read_scope(arguments, 0),
-                literal,
-            )),
-            (NAME, OWN, TERM_BAD) => PlanFigure::Count(name_bad(type_of_name(
-                read_scope(arguments, 0),
-                literal,
-            ))),
-            (LESS, FIRST | SECOND, TERM_ENV) => PlanFigure::Scope(read_scope(arguments, 0)),
+            (NAME, OWN, TERM_TYPE) => {
+                PlanFigure::Type(type_of_name(argument(0).scope(), literal))
+            }
+            (NAME, OWN, TERM_BAD) => {
+                let found = type_of_name(argument(0).scope(), literal);
+                PlanFigure::Count(u16::from(found == PlanType::Unknown))
+            }
+            (LESS, FIRST | SECOND, TERM_ENV) => PlanFigure::Scope(argument(0).scope()),
             (LESS, OWN, TERM_TYPE) => PlanFigure::Type(PlanType::Truth),
             (LESS, OWN, TERM_BAD) => PlanFigure::Count(comparison_bad(
-                read_type(arguments, 0),
-                read_type(arguments, 1),
-                read_count(arguments, 2),
-                read_count(arguments, 3),
+                argument(0).type_of(),
+                argument(1).type_of(),
+                argument(2).count(),
+                argument(3).count(),
             )),
-            _ => PlanFigure::Type(PlanType::Unknown),
+            _ => PlanFigure::blank(),
         }
     }
 

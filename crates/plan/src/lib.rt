@@ -2,7 +2,6 @@
 #![tactic(auto)]
 
 pub mod altered;
-mod arguments;
 pub mod figure;
 pub mod language;
 mod numbers;
@@ -13,3 +12,4 @@ pub mod theorems;
 pub use altered::AlteredPlan;
 pub use figure::{PlanFigure, PlanRow, PlanType};
 pub use language::Plan;
+pub use scope::Scope;

@@ -1,4 +1,5 @@
 // The numbers of the table: symbols, productions, places, attributes, and the occurrences that rules take.
+// Numbers and no enums: each question answers for every byte, so an enum would add a conversion and save no case.
 use grammar::Occurrence;
 
 // the symbols past the first, which is the plan

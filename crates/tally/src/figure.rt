@@ -21,14 +21,15 @@ impl Figure for Sum {
     }
 
     fn same(self, other: Sum) -> bool {
-        self.value == other.value
+        self == other
     }
 
     fn load(row: u16) -> Sum {
-        if row > LARGEST {
-            return Sum { value: 0 };
+        if row <= LARGEST {
+            Sum { value: row }
+        } else {
+            Sum::blank()
         }
-        Sum { value: row }
     }
 
     fn store(self) -> u16 {

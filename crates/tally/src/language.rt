@@ -13,7 +13,7 @@ pub struct Tally;
 // The symbol of items; that of sheets is 0.
 const ITEM: u8 = 1;
 
-// The productions.
+// The productions: numbers and no enum, since each question answers for every byte.
 const SHEET: u8 = 0;
 
 const HOLE: u8 = 1;
@@ -107,7 +107,7 @@ impl Language for Tally {
 
     fn accepts(&self, production: u8, literal: i32) -> bool {
         match production {
-            AMOUNT => 0 <= literal && literal <= 999,
+            AMOUNT => (0..=999).contains(&literal),
             _ => literal == 0,
         }
     }

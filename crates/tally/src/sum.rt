@@ -2,7 +2,7 @@
 ghost use Rattle.std.specs.Prelude.{◌≡◌, T, ◌+◌};
 ghost use Rattle.tally.specs.Range.{in_range, capped, literal_number};
 
-#[derive(Clone, Copy)]
+#[derive(Clone, Copy, PartialEq, Eq)]
 pub struct Sum {
     pub value: u16,
     ghost within: { T (in_range value) },
@@ -16,11 +16,8 @@ impl Sum {
     pub fn capped(number: u32) -> Sum
         ensures { result.value ≡ capped number }
     {
-        if number > LARGEST as u32 {
-            return Sum { value: LARGEST };
-        }
         Sum {
-            value: number as u16,
+            value: number.min(u32::from(LARGEST)) as u16,
         }
     }
 
@@ -28,9 +25,6 @@ impl Sum {
     pub fn plus(self, literal: i32) -> Sum
         ensures { result.value ≡ capped (self.value + literal_number literal) }
     {
-        if literal < 0 {
-            return self;
-        }
-        Sum::capped(self.value as u32 + literal as u32)
+        Sum::capped(u32::from(self.value) + u32::try_from(literal).unwrap_or(0))
     }
 }
