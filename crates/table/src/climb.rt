@@ -25,6 +25,7 @@ impl<'a> Table<'a> {
     }
 
     // The node at which the climb from node n ends. A climb of as many steps as there are nodes never ends.
+    #[tactic(auto, using(crate::proofs::Climbs::walks))]
     pub fn top_of(self, n: u16) -> Option<u16>
         ensures { MatchOption result ((top : ℕ) → Climb self.entry.nodes.now top n → ⊥) (λ top. Climb self.entry.nodes.now top n) }
     {
