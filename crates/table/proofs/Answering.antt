@@ -1,6 +1,7 @@
 -- From a decided test to what a function promises of its answer.
 use Rattle.std.proofs.Common.{◌≡◌, ℕ, ◌<◌, ◌≤◌, Bool, true, false, eqb, List, length, get_or, MatchBool, MatchOption, Option, Some, None, refl, subst, arith}
-use Rattle.std.proofs.lemmas.Bool.Decides.{Decides-eqb}
+use Rattle.std.proofs.lemmas.Bool.{both_ways, eqb-true, eqb-false}
+use Rattle.std.specs.Bool.{Decides}
 use Rattle.std.proofs.lemmas.List.FromFn.{length-range_with_len, get_or-range_with_len}
 use Rattle.std.specs.List.{range_with_len, AllWithin, HoldsAt}
 use Rattle.std.specs.Option.{option_eq}
@@ -16,12 +17,7 @@ by_answer false right wrong = wrong refl
 
 -- of a test that two numbers are equal
 pub by_equal : (x y : ℕ) {P Q : Type 0} → (x ≡ y → P) → ((x ≡ y → ⊥) → Q) → MatchBool (eqb x y) P Q
-by_equal x y right wrong =
-    by_answer (eqb x y) (λ e. right ((Decides-eqb x y).0 e)) (λ e. wrong (λ same. not_both (eqb x y) ((Decides-eqb x y).1 same) e))
-  where
-    not_both : (b : Bool) → b ≡ true → b ≡ false → ⊥
-    not_both true t f = let z : ◌≡◌ {A = ℕ} 0 1 = cc in omega arith
-    not_both false t f = let z : ◌≡◌ {A = ℕ} 0 1 = cc in omega arith
+by_equal x y right wrong = by_answer (eqb x y) (λ e. right (eqb-true x y e)) (λ e. wrong (eqb-false x y e))
 
 -- of a test of all numbers below a limit
 pub by_all_below : (b : Bool) (limit : ℕ) (Yes No : ℕ → Type 0) {P Q : Type 0}
@@ -35,6 +31,10 @@ by_all_below true limit Yes No all right wrong =
 by_all_below false limit Yes No some right wrong =
     let h : some.0 < limit = omega (arith, some.1, length-range_with_len 0 limit) in
     wrong some.0 h (subst No (omega (arith, get_or-range_with_len 0 limit some.0 0 h)) (some.2 0))
+
+-- of a test that decides a fact which holds exactly where another does
+pub by_decision : (b : Bool) {P Q : Type 0} → Decides b P → (P → Q) → (Q → P) → MatchBool b Q (Q → ⊥)
+by_decision b d to back = by_answer b (λ e. to (d.0 e)) (λ e q. both_ways b e (d.1 (back q)))
 
 -- a node is on the sheet exactly when its climb ends at node 0
 pub on_sheet_by_top : (ns : List Node) → length ns ≤ none → (n : ℕ) (top : Option ℕ)

@@ -3,6 +3,8 @@ pub mod Beginning
 pub mod Waiting
 pub mod Climbs
 pub mod Answering
+pub mod Counting
+pub mod Blanks
 pub mod Children
 pub mod Reading
 pub mod Places

@@ -6,7 +6,6 @@ ghost use Rattle.table.specs.Testing.{ChildrenFit, RecordFits};
 
 use crate::climb::{Table, is_used};
 use crate::node::{NONE, Node};
-use crate::record_test::{child_of, is_blank, is_once_among, no_child_from};
 use grammar::Language;
 
 // Whether a production is a hole.
@@ -24,7 +23,7 @@ fn child_fits<L: Language>(language: &L, nodes: &[Node], n: u16, k: usize) -> bo
     requires { (n < length nodes.now) × ((k < 3) × (k < length ((L.grammar language.now).children (record_at nodes.now n).production))) }
     ensures { MatchBool result (ChildAt (L.grammar language.now) nodes.now n k) (ChildAt (L.grammar language.now) nodes.now n k → ⊥) }
 {
-    let child = child_of(&nodes[n as usize], k);
+    let child = nodes[n as usize].children[k];
     if !is_used(nodes, child) {
         return false;
     }
@@ -55,7 +54,7 @@ fn is_one_child_of<L: Language>(language: &L, nodes: &[Node], m: u16, n: u16) ->
     ensures { MatchBool result (OneChildOf (L.grammar language.now) nodes.now m n) (OneChildOf (L.grammar language.now) nodes.now m n → ⊥) }
 {
     let count = language.children(nodes[m as usize].production).len();
-    is_once_among(&nodes[m as usize], count, n)
+    nodes[m as usize].names_once(count, n)
 }
 
 // Whether a used node hangs as it should; where it does not, the nodes form no sheet.
@@ -107,7 +106,7 @@ fn record_fits<L: Language>(language: &L, nodes: &[Node], n: u16) -> bool
     if !children_fit(language, nodes, n) {
         return false;
     }
-    no_child_from(&node, language.children(node.production).len())
+    node.has_no_child_from(language.children(node.production).len())
 }
 
 impl<'a> Table<'a> {
@@ -129,7 +128,7 @@ impl<'a> Table<'a> {
         if self.nodes[n as usize].used {
             self.is_in_order(language, n)
         } else {
-            is_blank(&self.nodes[n as usize])
+            self.nodes[n as usize].is_blank()
         }
     }
 
