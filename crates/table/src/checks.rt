@@ -47,7 +47,7 @@ impl<'a, L: Language> View<'a, L> {
 fn is_sized(nodes: usize, values: usize) -> bool
     ensures { MatchBool result (Sized nodes values) (Sized nodes values → ⊥) }
 {
-    1 <= nodes && nodes <= 1000 && 4 * nodes <= values
+    (1..=1000).contains(&nodes) && 4 * nodes <= values
 }
 
 // Refuses an output buffer that is too short.

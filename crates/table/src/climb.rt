@@ -2,7 +2,7 @@
 ghost use Rattle.std.specs.Prelude.{◌≡◌, ℕ, ◌≤◌, [], ◌∷◌, length, MatchBool, MatchOption};
 ghost use Rattle.table.specs.Checks.{on_sheet};
 ghost use Rattle.table.specs.Climbing.{Climb, OnSheet};
-ghost use Rattle.table.specs.Nodes.{Used};
+ghost use Rattle.table.specs.Nodes.{at as record_at, Used};
 ghost use Rattle.table.specs.Refusals.{Answer};
 ghost use Rattle.table.specs.Sheets.{ClippingRoot};
 
@@ -31,10 +31,7 @@ impl<'a> Table<'a> {
     {
         let mut reached = n;
         for _step in 0..self.nodes.len() {
-            if !is_used(self.nodes, reached) {
-                return None;
-            }
-            let parent = self.nodes[reached as usize].parent;
+            let parent = used_node(self.nodes, reached)?.parent;
             if parent == NONE {
                 return Some(reached);
             }
@@ -61,16 +58,23 @@ impl<'a> Table<'a> {
     }
 }
 
+// The record of node n, where it is in the table and in use.
+pub(crate) fn used_node(nodes: &[Node], n: u16) -> Option<&Node>
+    ensures { MatchOption result (Used nodes.now n → ⊥) (λ node. Used nodes.now n × (node.now ≡ record_at nodes.now n)) }
+{
+    nodes.get(n as usize).filter(|node| node.used)
+}
+
 // Whether node n is in the table and in use.
 pub fn is_used(nodes: &[Node], n: u16) -> bool
     ensures { MatchBool result (Used nodes.now n) (Used nodes.now n → ⊥) }
 {
-    nodes.get(n as usize).is_some_and(|node| node.used)
+    used_node(nodes, n).is_some()
 }
 
 // Whether node n is the root of a clipping.
 pub fn is_clipping_root(nodes: &[Node], n: u16) -> bool
     ensures { MatchBool result (ClippingRoot nodes.now n) (ClippingRoot nodes.now n → ⊥) }
 {
-    n != 0 && is_used(nodes, n) && nodes[n as usize].parent == NONE
+    n != 0 && used_node(nodes, n).is_some_and(|node| node.parent == NONE)
 }

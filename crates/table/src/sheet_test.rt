@@ -4,7 +4,7 @@ ghost use Rattle.table.specs.Nodes.{at as record_at, Used};
 ghost use Rattle.table.specs.Sheets.{Hole, OneChildOf, Hangs, InOrder, Good, Sheet};
 ghost use Rattle.table.specs.Testing.{ChildOf, ChildrenFit, RecordFits};
 
-use crate::climb::{Table, is_used};
+use crate::climb::{Table, is_used, used_node};
 use crate::node::{NONE, Node};
 use grammar::Language;
 
@@ -44,9 +44,11 @@ impl<'a, L: Language> Entry<'a, L> {
     fn has_child(&self, child: u16, symbol: u8) -> bool
         ensures { MatchBool result (ChildOf (L.grammar self.now.language.now) self.now.table.nodes.now self.now.n child symbol) (ChildOf (L.grammar self.now.language.now) self.now.table.nodes.now self.now.n child symbol → ⊥) }
     {
-        is_used(self.table.nodes, child) && {
-            let child = self.table.nodes[child as usize];
-            self.language.symbol(child.production) == symbol && child.parent == self.n
+        match used_node(self.table.nodes, child) {
+            Some(node) => {
+                self.language.symbol(node.production) == symbol && node.parent == self.n
+            }
+            None => false,
         }
     }
 
