@@ -33,14 +33,14 @@ module _ (n : ℕ) where
   pub found : (xs : List ℕ) → 1 ≤ times xs → (k : ℕ) × At xs k
   found [] h = absurd (omega arith)
   found (x ∷ xs) h = elim (cases_eq x n) [
-    inl e ↦ (0, (omega arith, e))
+    | inl e ↦ (0, (omega arith, e))
     | inr e ↦ let (k, (l, s)) = found xs (grind (arith, nat_tests)) in (suc k, (omega arith, s))
   ]
 
   pub found_twice : (xs : List ℕ) → 2 ≤ times xs → (j k : ℕ) × At xs j × At xs k × (j < k)
   found_twice [] h = absurd (omega arith)
   found_twice (x ∷ xs) h = elim (cases_eq x n) [
-    inl e ↦ let (k, (l, s)) = found xs (grind (arith, nat_tests)) in (0, suc k, (omega arith, e), (omega arith, s), omega arith)
+    | inl e ↦ let (k, (l, s)) = found xs (grind (arith, nat_tests)) in (0, suc k, (omega arith, e), (omega arith, s), omega arith)
     | inr e ↦ let (j, k, (g, s), (h', t), l) = found_twice xs (grind (arith, nat_tests)) in (suc j, suc k, (omega arith, s), (omega arith, t), omega arith)
   ]
 
@@ -50,7 +50,7 @@ module _ (n : ℕ) where
 
   same_place : (xs : List ℕ) → times xs ≡ 1 → (j k : ℕ) → At xs j → At xs k → j ≡ k
   same_place xs e j k g h = elim (cases_order j k) [
-    inl same ↦ same
+    | inl same ↦ same
     | inr (inl l) ↦ absurd (let r = twice xs j k g h l in omega arith)
     | inr (inr l) ↦ absurd (let r = twice xs k j h g l in omega arith)
   ]
@@ -60,19 +60,19 @@ module _ (n : ℕ) where
       by_equal (times xs) 1
       (λ e. let (place, at_place) = found xs (omega arith) in (place, at_place, λ k h. same_place xs e k place h at_place))
       (λ ne (place, at_place, alone).
-        let r = present xs place at_place in
-        let (j, k, g, h, l) = found_twice xs (omega arith) in
-        let e = alone j g in
-        let e' = alone k h in
-        omega arith)
+      let r = present xs place at_place in
+      let (j, k, g, h, l) = found_twice xs (omega arith) in
+      let e = alone j g in
+      let e' = alone k h in
+      omega arith)
 
 -- of the first child places exactly one names node n, where the count of those that do is 1
 pub once_among : (nd : Node) (count n : ℕ) → count ≤ length nd.children → MatchBool (count_by (λ x. x == n) (take count nd.children) == 1) (Once nd count n) (Once nd count n → ⊥)
 once_among nd count n few =
     subst (λ times. MatchBool (times == 1) (Once nd count n) (Once nd count n → ⊥)) (is_count_by (times n) (λ x. x == n) refl (λ x xs. refl) some)
     (changed (times n some == 1) (once_by_count n some)
-      (λ (place, h, alone). record { place = place; inside = (there place h).0; named = (there place h).1; alone = λ k l e. alone k (here k l e) })
-      (λ once. (once.place, here once.place once.inside once.named, λ k h. once.alone k (there k h).0 (there k h).1)))
+    (λ (place, h, alone). record { place = place; inside = (there place h).0; named = (there place h).1; alone = λ k l e. alone k (here k l e) })
+    (λ once. (once.place, here once.place once.inside once.named, λ k h. once.alone k (there k h).0 (there k h).1)))
   where
     some : List ℕ
     some = take count nd.children

@@ -1,6 +1,5 @@
 pub mod Refusing
 pub mod Beginning
-pub mod Waiting
 pub mod Climbs
 pub mod Answering
 pub mod Counting

@@ -41,6 +41,7 @@ impl<'a> Table<'a> {
     }
 
     // Whether node n is on the sheet.
+    #[tactic(auto, using(crate::proofs::Answering::on_sheet_by_top))]
     pub fn is_on_sheet(self, n: u16) -> bool
         ensures { MatchBool result (OnSheet self.entry.nodes.now n) (OnSheet self.entry.nodes.now n → ⊥) }
     {
@@ -62,7 +63,7 @@ impl<'a> Table<'a> {
 pub(crate) fn used_node(nodes: &[Node], n: u16) -> Option<&Node>
     ensures { MatchOption result (Used nodes.now n → ⊥) (λ node. Used nodes.now n × (node.now ≡ record_at nodes.now n)) }
 {
-    nodes.get(n as usize).filter(|node| node.used)
+    nodes.get(usize::from(n)).filter(|node| node.used)
 }
 
 // Whether node n is in the table and in use.

@@ -37,7 +37,7 @@ impl<'a, L: Language> Entry<'a, L> {
     fn node(&self) -> &'a Node
         ensures { result.now ≡ record_at self.now.table.nodes.now self.now.n }
     {
-        &self.table.nodes[self.n as usize]
+        &self.table.nodes[usize::from(self.n)]
     }
 
     // Whether a child that the node names is in use, has a symbol and names the node as its parent.
@@ -82,11 +82,9 @@ impl<'a, L: Language> Entry<'a, L> {
         requires { Used self.now.table.nodes.now m }
         ensures { MatchBool result (OneChildOf (L.grammar self.now.language.now) self.now.table.nodes.now m self.now.n) (Sheet (L.grammar self.now.language.now) self.now.table.nodes.now → OneChildOf (L.grammar self.now.language.now) self.now.table.nodes.now m self.now.n → ⊥) }
     {
-        let parent = self.table.nodes[m as usize];
-        parent.production < self.language.productions() && {
-            let symbols = self.language.children(parent.production);
-            parent.names_once(symbols.len(), self.n)
-        }
+        let parent = &self.table.nodes[usize::from(m)];
+        parent.production < self.language.productions()
+            && parent.names_once(self.language.children(parent.production).len(), self.n)
     }
 
     // Whether the node, which is in use, hangs as it should; where it does not, the nodes form no sheet.
@@ -131,6 +129,6 @@ impl<'a> Table<'a> {
         ensures { MatchBool result (Sheet (L.grammar language.now) self.entry.nodes.now) (Sheet (L.grammar language.now) self.entry.nodes.now → ⊥) }
     {
         is_used(self.nodes, 0)
-            && (0..self.nodes.len()).all(|n| Entry::new(language, self, n as u16).is_good())
+            && (0..self.nodes.len() as u16).all(|n| Entry::new(language, self, n).is_good())
     }
 }

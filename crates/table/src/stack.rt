@@ -24,7 +24,7 @@ impl<'a, T: Copy> Stack<'a, T> {
     pub fn push(&mut self, entry: T) -> Result<(), T>
         ensures { PushAnswer entry self.old.slots.now self.new.slots.now self.old.len self.new.len result }
     {
-        if self.len >= self.slots.len() {
+        if self.len == self.slots.len() {
             return Err(entry);
         }
         self.slots[self.len] = entry;
@@ -36,10 +36,7 @@ impl<'a, T: Copy> Stack<'a, T> {
     pub fn pop(&mut self) -> Option<T>
         ensures { PopAnswer self.old.slots.now self.new.slots.now self.old.len self.new.len result }
     {
-        if self.len == 0 {
-            return None;
-        }
-        self.len -= 1;
+        self.len = self.len.checked_sub(1)?;
         Some(self.slots[self.len])
     }
 }

@@ -9,5 +9,5 @@ returns-then-is_used g c =
     let gr = g.L.Language.grammar c.args.language.now in
     let ns = c.args.self.nodes.now in
     by_all_below c.all.result (length ns) (λ n. Good gr ns n) (λ n. Sheet gr ns → ⊥)
-      (cases_from_all _ _ _ (λ n. Good gr ns n) (λ n. Sheet gr ns → ⊥) c.all.ensures.ran (YieldsList-from_range 0 (length ns) (length ns) refl (omega arith)) (λ n q k. search (rules, tests)) (λ n q k. search (rules, tests)))
-      (λ each. record { root_used = search rules; each = each }) (λ n h bad. bad)
+    (cases_from_all _ _ _ (λ n. Good gr ns n) (λ n. Sheet gr ns → ⊥) c.all.ensures.ran (YieldsList-from_range 0 (length ns) (length ns) refl (omega arith)) (λ n q k. search (rules, tests)) (λ n q k. search (rules, tests)))
+    (λ each. record { root_used = search rules; each = each }) (λ n h bad. bad)

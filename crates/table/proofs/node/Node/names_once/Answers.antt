@@ -1,4 +1,4 @@
-use Rattle.std.proofs.Common.{◌≡◌, ◌==◌, count_by, take, arith, sym, subst}
+use Rattle.std.proofs.Common.{◌≡◌, ◌==◌, count_by, take, arith}
 use Rattle.std.proofs.lemmas.Grind.{common_steps}
 use Rattle.table.proofs.Counting.{once_among}
 use Rattle.table.proofs.node.Node.names_once.Goals as goal
