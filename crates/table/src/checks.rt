@@ -18,13 +18,21 @@ pub struct View<'a, L> {
 }
 
 impl<'a, L: Language> View<'a, L> {
+    // Whether there are 1 to 1000 nodes, and four values for each.
+    fn is_sized(self) -> bool
+        ensures { MatchBool result (Sized (length self.entry.nodes.now) self.entry.values) (Sized (length self.entry.nodes.now) self.entry.values → ⊥) }
+    {
+        let nodes = self.nodes.len();
+        (1..=1000).contains(&nodes) && 4 * nodes <= self.values
+    }
+
     // What every call checks first: the language, and the sizes of the lent memory.
     pub fn check_memory(self) -> Result<Table<'a>, TableFault>
         ensures answer { Answer (memory (L.grammar self.entry.language.now) (length self.entry.nodes.now) self.entry.values) result }
         ensures table { IfOk result (λ table. table.nodes.now ≡ self.entry.nodes.now) }
     {
         test(self.language)?;
-        if !is_sized(self.nodes.len(), self.values) {
+        if !self.is_sized() {
             return Err(TableFault::Size);
         }
         Ok(Table::new(self.nodes))
@@ -41,13 +49,6 @@ impl<'a, L: Language> View<'a, L> {
         }
         Ok(table)
     }
-}
-
-// Whether there are 1 to 1000 nodes, and four values for each.
-fn is_sized(nodes: usize, values: usize) -> bool
-    ensures { MatchBool result (Sized nodes values) (Sized nodes values → ⊥) }
-{
-    (1..=1000).contains(&nodes) && 4 * nodes <= values
 }
 
 // Refuses an output buffer that is too short.

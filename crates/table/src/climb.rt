@@ -17,6 +17,7 @@ pub struct Table<'a> {
 }
 
 impl<'a> Table<'a> {
+    // The table of these nodes.
     pub fn new(nodes: &'a [Node]) -> Table<'a>
         requires { length nodes.now ≤ 1000 }
         ensures { result.nodes.now ≡ nodes.now }

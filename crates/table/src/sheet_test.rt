@@ -25,6 +25,7 @@ struct Entry<'a, L> {
 }
 
 impl<'a, L: Language> Entry<'a, L> {
+    // Node n of a table.
     fn new(language: &'a L, table: Table<'a>, n: u16) -> Entry<'a, L>
         requires { n < length table.nodes.now }
         ensures same_language { result.language.now ≡ language.now }
@@ -34,6 +35,7 @@ impl<'a, L: Language> Entry<'a, L> {
         Entry { language, table, n }
     }
 
+    // The node's record.
     fn node(&self) -> &'a Node
         ensures { result.now ≡ record_at self.now.table.nodes.now self.now.n }
     {
