@@ -1,12 +1,13 @@
 -- Every used node of a sheet has a tree under it: depths are bounded, and each step down goes one deeper.
-use Rattle.std.proofs.Common.{◌≡◌, ℕ, zero, suc, ◌+◌, ◌<◌, ◌≤◌, Bool, true, false, List, length, sym, refl, ◌∙◌, subst, inl, inr, arith}
+use Rattle.std.proofs.Common.{◌≡◌, ℕ, zero, suc, ◌+◌, ◌<◌, ◌≤◌, Bool, true, false, List, length, refl, subst, inl, inr, arith}
+use Rattle.std.proofs.lemmas.Bool.{cases_lt, both_ways}
 use Rattle.grammar.specs.Grammar.{Grammar}
 use Rattle.grammar.specs.Tree.{Tree, none, node}
 use Rattle.table.specs.declared.node.Node.{Node}
 use Rattle.table.specs.Nodes.{at, child_field, Used}
 use Rattle.table.specs.Sheets.{Sheet}
 use Rattle.table.specs.Represents.{Represents}
-use Rattle.table.proofs.Reading.{in_order, child_or_none, below_or_not}
+use Rattle.table.proofs.Reading.{in_order, child_or_none}
 use Rattle.table.proofs.Under.{Depth, one_more, depth_of, depth_once}
 
 module _ (g : Grammar) (ns : List Node) (sheet : Sheet g ns) (few : length ns ≤ 1000) where
@@ -19,7 +20,7 @@ module _ (g : Grammar) (ns : List Node) (sheet : Sheet g ns) (few : length ns �
     where
       go : (b : Bool) → (at ns n).used ≡ b → (bound : ℕ) × (Used ns n → (d : ℕ) → Depth ns d n → d ≤ bound)
       go true e = let here = depth_of (in_order sheet n (h, e)).climbs.1 in (here.0, λ u d w. omega (arith, depth_once ns few w here.1))
-      go false e = (0, λ u d w. absurd (let z : true ≡ false = sym u.1 ∙ e in let y : ◌≡◌ {A = ℕ} 0 1 = cc in omega arith))
+      go false e = (0, λ u d w. absurd (both_ways (at ns n).used e u.1))
 
   bound_below : (k : ℕ) → k ≤ length ns → (bound : ℕ) × Bounded k bound
   bound_below zero h = (0, λ n l u d w. absurd (omega arith))
@@ -27,7 +28,7 @@ module _ (g : Grammar) (ns : List Node) (sheet : Sheet g ns) (few : length ns �
       let before = bound_below k (omega arith) in
       let last = depth_at k (omega arith) in (
         before.0 + last.0,
-        λ n l u d w. elim (below_or_not n k) [
+        λ n l u d w. elim (cases_lt n k) [
           | inl q ↦ omega (arith, before.1 n q u d w)
           | inr q ↦ let e : n ≡ k = omega arith in omega (arith, last.1 (subst (λ (i : ℕ). Used ns i) e u) d (subst (λ (i : ℕ). Depth ns d i) e w))
         ],

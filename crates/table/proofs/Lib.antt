@@ -1,8 +1,9 @@
 pub mod Refusing
 pub mod Beginning
-pub mod Waiting
 pub mod Climbs
 pub mod Answering
+pub mod Counting
+pub mod Blanks
 pub mod Children
 pub mod Reading
 pub mod Places

@@ -1,5 +1,6 @@
 -- Edits of a sheet replace a subtree: one child field that names another tree, or one node with another record and other children.
 use Rattle.std.proofs.Common.{◌≡◌, ℕ, ◌<◌, ◌≤◌, ◌⊎◌, List, ◌++◌, length, sym, ◌∙◌, subst, inl, inr}
+use Rattle.std.proofs.lemmas.Bool.Decides.{eqb_tells}
 use Rattle.grammar.specs.Grammar.{Grammar}
 use Rattle.grammar.specs.Tree.{Tree, node, hanging}
 use Rattle.table.specs.declared.node.Node.{Node}
@@ -7,12 +8,12 @@ use Rattle.table.specs.Nodes.{at, child_field, Used}
 use Rattle.table.specs.Sheets.{Sheet}
 use Rattle.table.specs.Represents.{Represents, numbers, In, replace}
 use Rattle.table.proofs.Reading.{in_order, never_none, used_child}
-use Rattle.table.proofs.Places.{tree_induction, represented_at, in_place, at_place, root_used}
+use Rattle.table.proofs.Places.{tree_induction, represented_at, in_place, root_used}
 use Rattle.table.proofs.Frame.{Kept}
 use Rattle.table.proofs.Under.{Under, itself, up, Depth, under_used, depth_of, none_both_ways, under_both_ways}
 use Rattle.table.proofs.Members.{member_under}
 use Rattle.table.proofs.Distinctness.{one_place}
-use Rattle.table.proofs.Replaced.{around, redirect, Relinked, equal_or_not, redirect_same, redirect_other, redirect_itself, around_here, around_there, around_in, replaced}
+use Rattle.table.proofs.Replaced.{around, redirect, Relinked, redirect_same, redirect_other, redirect_itself, around_here, around_there, around_in, replaced}
 
 -- Node q is in use after, with the production and the literal that it had, and its child field k names m', while the other two name what they named.
 pub record LinkChanged (ns ns' : List Node) (q k m' : ℕ) : Type 0 where
@@ -29,7 +30,7 @@ module _ (g : Grammar) (ns : List Node) (sheet : Sheet g ns) (few : length ns �
   -- no node around m's subtree lies under m, where m does not lie above the tree
   pub around_apart : (m x : ℕ) → Under ns m x → (t : Tree) (n : ℕ) → (Under ns m n → m ≡ n) → Represents ns n t → In x (around m t) → ⊥
   around_apart m x w = tree_induction (λ t. (n : ℕ) → (Under ns m n → m ≡ n) → Represents ns n t → In x (around m t) → ⊥) (λ n above r i. i)
-      (λ i p l a b c again n above r q. elim (equal_or_not i m) [
+      (λ i p l a b c again n above r q. elim (eqb_tells i m) [
         | inl h ↦ subst (λ (xs : List ℕ). In x xs) (around_here m i p l a b c h.0) q
         | inr h ↦
             let cases : (x ≡ i) ⊎ In x (around m a ++ (around m b ++ around m c)) = subst (λ (xs : List ℕ). In x xs) (around_there m i p l a b c h.0) q in
@@ -47,19 +48,6 @@ module _ (g : Grammar) (ns : List Node) (sheet : Sheet g ns) (few : length ns �
       lower n i m e other above u k h v (itself u' f) = sym f
       lower n i m e other above u k h v (up j u' f z) =
           absurd (other (e ∙ sym (above (subst (λ (y : ℕ). Under ns m y) (sym f ∙ (used_child sheet few n u k h v).1.parent) z))))
-
-  -- a node of the tree that does not lie under m stands around m's subtree
-  pub around_all : (m x : ℕ) → (Under ns m x → ⊥) → (t : Tree) (n : ℕ) → Represents ns n t → In x (numbers t) → In x (around m t)
-  around_all m x out = tree_induction (λ t. (n : ℕ) → Represents ns n t → In x (numbers t) → In x (around m t)) (λ n r i. i)
-      (λ i p l a b c again n r q. elim (equal_or_not i m) [
-        | inl h ↦ absurd (out (subst (λ (j : ℕ). Under ns j x) (sym r.0 ∙ h.1) (member_under g ns sheet few x (node i p l a b c) n r q)))
-        | inr h ↦ subst (λ (xs : List ℕ). In x xs) (sym (around_there m i p l a b c h.0)) (elim q [
-          | inl e ↦ inl e
-          | inr j ↦
-              let at_k = in_place x numbers i p l a b c j in
-              inr (at_place x (around m) i p l a b c at_k.0 at_k.1 (again at_k.0 (child_field (at ns n) at_k.0) (represented_at ns n i p l a b c r at_k.0 at_k.1) at_k.2))
-        ])
-      ])
 
   -- a number of a tree does not lie above it
   pub not_above : (m : ℕ) (t : Tree) (n : ℕ) → Represents ns n t → In m (numbers t) → Under ns m n → m ≡ n
@@ -103,7 +91,7 @@ module _ (g : Grammar) (ns : List Node) (sheet : Sheet g ns) (few : length ns �
         other_root f = none_both_ways ns few (depth_at m v).1 (depth_at m v).1 q parent (subst (λ (y : ℕ). Under ns y q) f under_q)
 
         relinked : (x : ℕ) → In x (around m t) → Relinked ns ns' m m' x
-        relinked x a = elim (equal_or_not x q) [
+        relinked x a = elim (eqb_tells x q) [
           | inl y ↦ subst (λ (z : ℕ). Relinked ns ns' m m' z) (sym y.1) (record { used = link.used; production = link.production; literal = link.literal; children = at_q })
           | inr y ↦
               let in_t : In x (numbers t) = around_in x m t a in
@@ -113,7 +101,7 @@ module _ (g : Grammar) (ns : List Node) (sheet : Sheet g ns) (few : length ns �
         ]
           where
             at_q : (j : ℕ) → j < 3 → child_field (at ns' q) j ≡ redirect m m' (child_field (at ns q) j)
-            at_q j less = elim (equal_or_not j k) [
+            at_q j less = elim (eqb_tells j k) [
               | inl y ↦ subst (λ (z : ℕ). child_field (at ns' q) z ≡ redirect m m' (child_field (at ns q) z)) (sym y.1) (link.changed ∙ sym (redirect_same m m' (child_field (at ns q) k) e))
               | inr y ↦ link.others j less y.1 ∙ sym (redirect_other m m' (child_field (at ns q) j) (λ f. y.1 (one_place g ns sheet few q used_q j k less h (subst (λ (z : ℕ). Used ns z) (sym f) v) (f ∙ sym e))))
             ]

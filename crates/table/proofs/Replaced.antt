@@ -1,6 +1,7 @@
 -- Replacing one subtree of a tree: how it computes, which numbers stand around the subtree, and the records that have the new tree.
-use Rattle.std.proofs.Common.{◌≡◌, ℕ, ◌<◌, Bool, true, false, T, eqb, ◌⊎◌, List, [], ◌∷◌, ◌++◌, ℤ, sym, refl, ◌∙◌, subst, inl, inr, arith, eqb→eq}
-use lib.Dec.{eqb_refl}
+use Rattle.std.proofs.Common.{◌≡◌, ℕ, ◌<◌, Bool, true, false, eqb, ◌⊎◌, List, [], ◌∷◌, ◌++◌, ℤ, sym, refl, ◌∙◌, subst, inl, inr, arith}
+use Rattle.std.proofs.lemmas.Bool.Decides.{eqb_tells}
+pub use Rattle.std.proofs.lemmas.Bool.Decides.{eqb_tells as equal_or_not}
 use Rattle.grammar.specs.Tree.{Tree, none, node, hanging}
 use Rattle.table.specs.declared.node.Node.{Node}
 use Rattle.table.specs.Nodes.{at, child_field, Used}
@@ -24,14 +25,6 @@ pub record Relinked (ns ns' : List Node) (m m' x : ℕ) : Type 0 where
   pub literal : (at ns' x).literal ≡ (at ns x).literal
   pub children : (k : ℕ) → k < 3 → child_field (at ns' x) k ≡ redirect m m' (child_field (at ns x) k)
 
--- two numbers are equal or not, and the test says so
-pub equal_or_not : (j k : ℕ) → ((eqb j k ≡ true) × (j ≡ k)) ⊎ ((eqb j k ≡ false) × (j ≡ k → ⊥))
-equal_or_not j k = go (eqb j k) refl
-  where
-    go : (b : Bool) → eqb j k ≡ b → ((eqb j k ≡ true) × (j ≡ k)) ⊎ ((eqb j k ≡ false) × (j ≡ k → ⊥))
-    go true e = inl (e, eqb→eq j k (subst T (sym e) tt))
-    go false e = inr (e, λ q. subst T e (subst (λ (i : ℕ). T (eqb j i)) q (eqb_refl j)))
-
 -- a choice by a test whose answer is known
 chosen : {A : Type 0} (b : Bool) (x y : A) → b ≡ true → elim b [ true ↦ x | false ↦ y ] ≡ x
 chosen {A} b x y e = subst (λ (z : Bool). ◌≡◌ {A = A} (elim z [ true ↦ x | false ↦ y ]) x) (sym e) refl
@@ -40,13 +33,13 @@ not_chosen : {A : Type 0} (b : Bool) (x y : A) → b ≡ false → elim b [ true
 not_chosen {A} b x y e = subst (λ (z : Bool). ◌≡◌ {A = A} (elim z [ true ↦ x | false ↦ y ]) y) (sym e) refl
 
 pub redirect_same : (m m' field : ℕ) → field ≡ m → redirect m m' field ≡ m'
-redirect_same m m' field e = elim (equal_or_not field m) [ inl h ↦ chosen (eqb field m) m' field h.0 | inr h ↦ absurd (h.1 e) ]
+redirect_same m m' field e = elim (eqb_tells field m) [ inl h ↦ chosen (eqb field m) m' field h.0 | inr h ↦ absurd (h.1 e) ]
 
 pub redirect_other : (m m' field : ℕ) → (field ≡ m → ⊥) → redirect m m' field ≡ field
-redirect_other m m' field e = elim (equal_or_not field m) [ inl h ↦ absurd (e h.1) | inr h ↦ not_chosen (eqb field m) m' field h.0 ]
+redirect_other m m' field e = elim (eqb_tells field m) [ inl h ↦ absurd (e h.1) | inr h ↦ not_chosen (eqb field m) m' field h.0 ]
 
 pub redirect_itself : (m field : ℕ) → redirect m m field ≡ field
-redirect_itself m field = elim (equal_or_not field m) [ inl h ↦ redirect_same m m field h.1 ∙ sym h.1 | inr h ↦ redirect_other m m field h.1 ]
+redirect_itself m field = elim (eqb_tells field m) [ inl h ↦ redirect_same m m field h.1 ∙ sym h.1 | inr h ↦ redirect_other m m field h.1 ]
 
 module _ (m : ℕ) (n p : ℕ) (l : ℤ) (a b c : Tree) where
   -- at the root, and elsewhere
@@ -65,7 +58,7 @@ module _ (m : ℕ) (n p : ℕ) (l : ℤ) (a b c : Tree) where
 -- the numbers around a subtree are numbers of the tree
 pub around_in : (x m : ℕ) (t : Tree) → In x (around m t) → In x (numbers t)
 around_in x m = tree_induction (λ t. In x (around m t) → In x (numbers t)) (λ i. i)
-    (λ n p l a b c again i. elim (equal_or_not n m) [
+    (λ n p l a b c again i. elim (eqb_tells n m) [
       | inl h ↦ absurd (subst (λ (xs : List ℕ). In x xs) (around_here m n p l a b c h.0) i)
       | inr h ↦
           let cases : (x ≡ n) ⊎ In x (around m a ++ (around m b ++ around m c)) = subst (λ (xs : List ℕ). In x xs) (around_there m n p l a b c h.0) i in
@@ -75,61 +68,11 @@ around_in x m = tree_induction (λ t. In x (around m t) → In x (numbers t)) (�
           ]
     ])
 
--- the numbers of the new tree are those around the subtree and those of what replaced it
-pub replaced_numbers : (x m : ℕ) (u t : Tree) → In x (numbers (replace m u t)) → In x (around m t) ⊎ In x (numbers u)
-replaced_numbers x m u = tree_induction (λ t. In x (numbers (replace m u t)) → In x (around m t) ⊎ In x (numbers u)) (λ i. inl i)
-    (λ n p l a b c again i. elim (equal_or_not n m) [
-      | inl h ↦ inr (subst (λ (s : Tree). In x (numbers s)) (replace_here m n p l a b c u h.0) i)
-      | inr h ↦
-          let cases : (x ≡ n) ⊎ In x (numbers (replace m u a) ++ (numbers (replace m u b) ++ numbers (replace m u c))) = subst (λ (s : Tree). In x (numbers s)) (replace_there m n p l a b c u h.0) i in
-          subst (λ (xs : List ℕ). In x xs ⊎ In x (numbers u)) (sym (around_there m n p l a b c h.0)) (elim cases [
-            | inl e ↦ inl (inl e)
-            | inr j ↦
-                let at_k = in_place x (λ s. numbers (replace m u s)) n p l a b c j in
-                elim (again at_k.0 at_k.2) [ inl q ↦ inl (inr (at_place x (around m) n p l a b c at_k.0 at_k.1 q)) | inr q ↦ inr q ]
-          ])
-    ])
-
-pub around_stays : (x m : ℕ) (u t : Tree) → In x (around m t) → In x (numbers (replace m u t))
-around_stays x m u = tree_induction (λ t. In x (around m t) → In x (numbers (replace m u t))) (λ i. i)
-    (λ n p l a b c again i. elim (equal_or_not n m) [
-      | inl h ↦ absurd (subst (λ (xs : List ℕ). In x xs) (around_here m n p l a b c h.0) i)
-      | inr h ↦
-          let cases : (x ≡ n) ⊎ In x (around m a ++ (around m b ++ around m c)) = subst (λ (xs : List ℕ). In x xs) (around_there m n p l a b c h.0) i in
-          subst (λ (s : Tree). In x (numbers s)) (sym (replace_there m n p l a b c u h.0)) (elim cases [
-            | inl e ↦ inl e
-            | inr j ↦
-                let at_k = in_place x (around m) n p l a b c j in
-                inr (at_place x (λ s. numbers (replace m u s)) n p l a b c at_k.0 at_k.1 (again at_k.0 at_k.2))
-          ])
-    ])
-
-pub replacement_in : (x m : ℕ) (u : Tree) → In x (numbers u) → (t : Tree) → In m (numbers t) → In x (numbers (replace m u t))
-replacement_in x m u w = tree_induction (λ t. In m (numbers t) → In x (numbers (replace m u t))) (λ i. i)
-    (λ n p l a b c again i. elim (equal_or_not n m) [
-      | inl h ↦ subst (λ (s : Tree). In x (numbers s)) (sym (replace_here m n p l a b c u h.0)) w
-      | inr h ↦ subst (λ (s : Tree). In x (numbers s)) (sym (replace_there m n p l a b c u h.0)) (elim i [
-        | inl e ↦ absurd (h.1 (sym e))
-        | inr j ↦
-            let at_k = in_place m numbers n p l a b c j in
-            inr (at_place x (λ s. numbers (replace m u s)) n p l a b c at_k.0 at_k.1 (again at_k.0 at_k.2))
-      ])
-    ])
-
--- where no number is m, nothing is replaced
-pub replace_absent : (m : ℕ) (u t : Tree) → (In m (numbers t) → ⊥) → replace m u t ≡ t
-replace_absent m u none absent = refl
-replace_absent m u (node n p l a b c) absent =
-    let first : replace m u a ≡ a = replace_absent m u a (λ i. absent (inr (at_place m numbers n p l a b c 0 (omega arith) i))) in
-    let second : replace m u b ≡ b = replace_absent m u b (λ i. absent (inr (at_place m numbers n p l a b c 1 (omega arith) i))) in
-    let third : replace m u c ≡ c = replace_absent m u c (λ i. absent (inr (at_place m numbers n p l a b c 2 (omega arith) i))) in
-    elim (equal_or_not n m) [ inl h ↦ absurd (absent (inl (sym h.1))) | inr h ↦ replace_there m n p l a b c u h.0 ∙ cc ]
-
 -- The records after have the replaced tree, where they have u under m' and each node around m's subtree is relinked from m to m'.
 pub replaced : (ns ns' : List Node) (m m' : ℕ) (u : Tree) → (m ≡ Nodes.none → ⊥) → Represents ns' m' u → (t : Tree) (n : ℕ) → Represents ns n t → ((x : ℕ) → In x (around m t) → Relinked ns ns' m m' x) → Represents ns' (redirect m m' n) (replace m u t)
 replaced ns ns' m m' u some new = tree_induction (λ t. (n : ℕ) → Represents ns n t → ((x : ℕ) → In x (around m t) → Relinked ns ns' m m' x) → Represents ns' (redirect m m' n) (replace m u t))
     (λ n r relinked. redirect_other m m' n (λ e. some (sym e ∙ r)) ∙ r)
-    (λ i p l a b c again n r relinked. elim (equal_or_not i m) [
+    (λ i p l a b c again n r relinked. elim (eqb_tells i m) [
       | inl h ↦ both (redirect_same m m' n (sym r.0 ∙ h.1)) (replace_here m i p l a b c u h.0) new
       | inr h ↦
           let inside : (x : ℕ) → (x ≡ i) ⊎ In x (around m a ++ (around m b ++ around m c)) → Relinked ns ns' m m' x = λ x q. relinked x (subst (λ (xs : List ℕ). In x xs) (sym (around_there m i p l a b c h.0)) q) in

@@ -1,5 +1,5 @@
 -- The waiting list: a stack over lent slots. With len entries on it, it holds the first len slots, the last of them on top.
-use Rattle.std.specs.Prelude.{◌≡◌, ℕ, ◌+◌, ◌<◌, ◌≤◌, Bool, true, false, List, [], ◌∷◌, ◌++◌, length, take, Some, None, Option, slice_set}
+use Rattle.std.specs.Prelude.{◌≡◌, ℕ, ◌+◌, ◌<◌, ◌≤◌, List, [], ◌∷◌, ◌++◌, length, take, Some, None, Option, Ok, Err, Result, slice_set}
 
 -- Slots and count are as they were.
 pub record Untouched {T : Type 0} (slots slots' : List T) (len len' : ℕ) : Type 0 where
@@ -18,10 +18,10 @@ pub record Popped {T : Type 0} (x : T) (slots slots' : List T) (len len' : ℕ) 
   pub same_slots : slots' ≡ slots
   pub held : take len slots ≡ take len' slots ++ (x ∷ [])
 
--- what a push answers: true, or false where every slot is taken
-abbrev pub PushAnswer : {T : Type 0} → T → List T → List T → ℕ → ℕ → Bool → Type 0
-PushAnswer x slots slots' len len' true = (len < length slots) × Pushed x slots slots' len len'
-PushAnswer x slots slots' len len' false = (length slots ≤ len) × Untouched slots slots' len len'
+-- what a push answers: nothing, or the entry back where every slot is taken
+abbrev pub PushAnswer : {T : Type 0} → T → List T → List T → ℕ → ℕ → Result Unit T → Type 0
+PushAnswer x slots slots' len len' (Ok done) = (len < length slots) × Pushed x slots slots' len len'
+PushAnswer x slots slots' len len' (Err y) = (length slots ≤ len) × Untouched slots slots' len len' × (y ≡ x)
 
 -- what a pop answers: the top entry, or none where the stack is empty
 abbrev pub PopAnswer : {T : Type 0} → List T → List T → ℕ → ℕ → Option T → Type 0

@@ -2,7 +2,7 @@
 use Rattle.std.specs.Prelude.{◌≡◌, ℕ, ◌<◌, ◌≤◌, T, List, length}
 use Rattle.grammar.specs.Grammar.{Grammar}
 use Rattle.table.specs.declared.node.Node.{Node}
-use Rattle.table.specs.Nodes.{none, at, child_field}
+use Rattle.table.specs.Nodes.{none, at, child_field, Used}
 use Rattle.table.specs.Sheets.{ChildAt}
 
 -- no child stands at a place from the given one on
@@ -15,6 +15,12 @@ pub record Once (nd : Node) (count n : ℕ) : Type 0 where
   pub inside : place < count
   pub named : child_field nd place ≡ n
   pub alone : (k : ℕ) → k < count → child_field nd k ≡ n → k ≡ place
+
+-- node c is in use, is of this symbol and names node n as its parent
+pub record ChildOf (g : Grammar) (ns : List Node) (n c symbol : ℕ) : Type 0 where
+  pub used : Used ns c
+  pub of_symbol : g.symbol (at ns c).production ≡ symbol
+  pub parent : (at ns c).parent ≡ n
 
 -- every child of node n is as it should be
 abbrev pub ChildrenFit : Grammar → List Node → ℕ → Type 0

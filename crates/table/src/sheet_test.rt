@@ -1,155 +1,136 @@
 // Whether the nodes of a table form a sheet.
-ghost use Rattle.std.specs.Prelude.{◌≡◌, ◌<◌, ◌≤◌, length, MatchBool};
+ghost use Rattle.std.specs.Prelude.{◌≡◌, ◌<◌, length, MatchBool};
 ghost use Rattle.table.specs.Nodes.{at as record_at, Used};
-ghost use Rattle.table.specs.Sheets.{Hole, ChildAt, OneChildOf, Hangs, InOrder, Good, Sheet};
-ghost use Rattle.table.specs.Testing.{ChildrenFit, RecordFits};
+ghost use Rattle.table.specs.Sheets.{Hole, OneChildOf, Hangs, InOrder, Good, Sheet};
+ghost use Rattle.table.specs.Testing.{ChildOf, ChildrenFit, RecordFits};
 
-use crate::climb::{is_used, top_of};
+use crate::climb::{Table, is_used, used_node};
 use crate::node::{NONE, Node};
-use crate::record_test::{child_of, is_blank, is_once_among, no_child_from};
 use grammar::Language;
 
 // Whether a production is a hole.
 pub fn is_hole<L: Language>(language: &L, production: u8) -> bool
     ensures { MatchBool result (Hole (L.grammar language.now) production) (Hole (L.grammar language.now) production → ⊥) }
 {
-    if production == 0 {
-        return false;
-    }
-    production < language.symbols()
+    production != 0 && production < language.symbols()
 }
 
-// Whether child place k of node n names a used node of the right symbol that names n as its parent.
-fn child_fits<L: Language>(language: &L, nodes: &[Node], n: u16, k: usize) -> bool
-    requires { (n < length nodes.now) × ((k < 3) × (k < length ((L.grammar language.now).children (record_at nodes.now n).production))) }
-    ensures { MatchBool result (ChildAt (L.grammar language.now) nodes.now n k) (ChildAt (L.grammar language.now) nodes.now n k → ⊥) }
-{
-    let child = child_of(&nodes[n as usize], k);
-    if !is_used(nodes, child) {
-        return false;
-    }
-    let symbol = language.children(nodes[n as usize].production)[k];
-    if language.symbol(nodes[child as usize].production) != symbol {
-        return false;
-    }
-    nodes[child as usize].parent == n
+// A node of a table, and the language that it is tested by.
+#[derive(Drop)]
+struct Entry<'a, L> {
+    language: &'a L,
+    table: Table<'a>,
+    n: u16,
+    ghost inside: { n < length table.nodes.now },
 }
 
-// Whether every child of node n is as it should be.
-fn children_fit<L: Language>(language: &L, nodes: &[Node], n: u16) -> bool
-    requires { (n < length nodes.now) × ((record_at nodes.now n).production < (L.grammar language.now).productions) }
-    ensures { MatchBool result (ChildrenFit (L.grammar language.now) nodes.now n) (ChildrenFit (L.grammar language.now) nodes.now n → ⊥) }
-{
-    let count = language.children(nodes[n as usize].production).len();
-    for k in 0..count {
-        if !child_fits(language, nodes, n, k) {
-            return false;
+impl<'a, L: Language> Entry<'a, L> {
+    // Node n of a table.
+    fn new(language: &'a L, table: Table<'a>, n: u16) -> Entry<'a, L>
+        requires { n < length table.nodes.now }
+        ensures same_language { result.language.now ≡ language.now }
+        ensures same_nodes { result.table.nodes.now ≡ table.entry.nodes.now }
+        ensures same_number { result.n ≡ n }
+    {
+        Entry { language, table, n }
+    }
+
+    // The node's record.
+    fn node(&self) -> &'a Node
+        ensures { result.now ≡ record_at self.now.table.nodes.now self.now.n }
+    {
+        &self.table.nodes[usize::from(self.n)]
+    }
+
+    // Whether a child that the node names is in use, has a symbol and names the node as its parent.
+    fn has_child(&self, child: u16, symbol: u8) -> bool
+        ensures { MatchBool result (ChildOf (L.grammar self.now.language.now) self.now.table.nodes.now self.now.n child symbol) (ChildOf (L.grammar self.now.language.now) self.now.table.nodes.now self.now.n child symbol → ⊥) }
+    {
+        match used_node(self.table.nodes, child) {
+            Some(node) => {
+                self.language.symbol(node.production) == symbol && node.parent == self.n
+            }
+            None => false,
         }
     }
-    true
-}
 
-// Whether node n is exactly one child of node m.
-fn is_one_child_of<L: Language>(language: &L, nodes: &[Node], m: u16, n: u16) -> bool
-    requires { (m < length nodes.now) × ((record_at nodes.now m).production < (L.grammar language.now).productions) }
-    ensures { MatchBool result (OneChildOf (L.grammar language.now) nodes.now m n) (OneChildOf (L.grammar language.now) nodes.now m n → ⊥) }
-{
-    let count = language.children(nodes[m as usize].production).len();
-    is_once_among(&nodes[m as usize], count, n)
-}
+    // Whether every child is as it should be.
+    fn children_fit(&self) -> bool
+        requires { (record_at self.now.table.nodes.now self.now.n).production < (L.grammar self.now.language.now).productions }
+        ensures { MatchBool result (ChildrenFit (L.grammar self.now.language.now) self.now.table.nodes.now self.now.n) (ChildrenFit (L.grammar self.now.language.now) self.now.table.nodes.now self.now.n → ⊥) }
+    {
+        let node = self.node();
+        let symbols = self.language.children(node.production);
+        node.children
+            .iter()
+            .zip(symbols)
+            .all(|(child, symbol)| self.has_child(*child, *symbol))
+    }
 
-// Whether a used node hangs as it should; where it does not, the nodes form no sheet.
-fn hangs<L: Language>(language: &L, nodes: &[Node], n: u16) -> bool
-    requires { (length nodes.now ≤ 1000) × (Used nodes.now n) }
-    ensures { MatchBool result (Hangs (L.grammar language.now) nodes.now n) (Sheet (L.grammar language.now) nodes.now → ⊥) }
-{
-    let parent = nodes[n as usize].parent;
-    if n == 0 {
-        return parent == NONE;
+    // Whether the node's record is right, but for how the node hangs and that climbing ends.
+    fn record_fits(&self) -> bool
+        ensures { MatchBool result (RecordFits (L.grammar self.now.language.now) self.now.table.nodes.now self.now.n) (RecordFits (L.grammar self.now.language.now) self.now.table.nodes.now self.now.n → ⊥) }
+    {
+        let node = self.node();
+        node.production < self.language.productions()
+            && (self.n == 0) == (node.production == 0)
+            && self.language.accepts(node.production, node.literal)
+            && self.children_fit()
+            && node.has_no_child_from(self.language.children(node.production).len())
     }
-    if parent == NONE {
-        return !is_hole(language, nodes[n as usize].production);
-    }
-    if !is_used(nodes, parent) {
-        return false;
-    }
-    if nodes[parent as usize].production >= language.productions() {
-        return false;
-    }
-    is_one_child_of(language, nodes, parent, n)
-}
 
-// Whether production 0 stands at node 0 and nowhere else, as far as node n tells.
-fn starts_right(n: u16, production: u8) -> bool
-    ensures { MatchBool result ((n ≡ 0 → production ≡ 0) × (production ≡ 0 → n ≡ 0)) ((n ≡ 0 → production ≡ 0) × (production ≡ 0 → n ≡ 0) → ⊥) }
-{
-    if n == 0 {
-        return production == 0;
+    // Whether the node is exactly one child of node m, which is in use; where m's production does not exist, the nodes form no sheet.
+    fn is_one_child_of(&self, m: u16) -> bool
+        requires { Used self.now.table.nodes.now m }
+        ensures { MatchBool result (OneChildOf (L.grammar self.now.language.now) self.now.table.nodes.now m self.now.n) (Sheet (L.grammar self.now.language.now) self.now.table.nodes.now → OneChildOf (L.grammar self.now.language.now) self.now.table.nodes.now m self.now.n → ⊥) }
+    {
+        let parent = &self.table.nodes[usize::from(m)];
+        parent.production < self.language.productions()
+            && parent.names_once(self.language.children(parent.production).len(), self.n)
     }
-    production != 0
-}
 
-// Whether node n's record is right, but for how the node hangs and that climbing ends.
-fn record_fits<L: Language>(language: &L, nodes: &[Node], n: u16) -> bool
-    requires { n < length nodes.now }
-    ensures { MatchBool result (RecordFits (L.grammar language.now) nodes.now n) (RecordFits (L.grammar language.now) nodes.now n → ⊥) }
-{
-    let node = nodes[n as usize];
-    if node.production >= language.productions() {
-        return false;
-    }
-    if !starts_right(n, node.production) {
-        return false;
-    }
-    if !language.accepts(node.production, node.literal) {
-        return false;
-    }
-    if !children_fit(language, nodes, n) {
-        return false;
-    }
-    no_child_from(&node, language.children(node.production).len())
-}
-
-// Whether a used node is in order; where it is not, the nodes form no sheet.
-fn is_in_order<L: Language>(language: &L, nodes: &[Node], n: u16) -> bool
-    requires { (length nodes.now ≤ 1000) × (Used nodes.now n) }
-    ensures { MatchBool result (InOrder (L.grammar language.now) nodes.now n) (Sheet (L.grammar language.now) nodes.now → ⊥) }
-{
-    if !record_fits(language, nodes, n) {
-        return false;
-    }
-    if !hangs(language, nodes, n) {
-        return false;
-    }
-    match top_of(nodes, n) {
-        Some(_) => true,
-        None => false,
-    }
-}
-
-// Whether node n is in order or blank; where it is neither, the nodes form no sheet.
-fn is_good<L: Language>(language: &L, nodes: &[Node], n: u16) -> bool
-    requires { (length nodes.now ≤ 1000) × (n < length nodes.now) }
-    ensures { MatchBool result (Good (L.grammar language.now) nodes.now n) (Sheet (L.grammar language.now) nodes.now → ⊥) }
-{
-    if nodes[n as usize].used {
-        return is_in_order(language, nodes, n);
-    }
-    is_blank(&nodes[n as usize])
-}
-
-// Whether the nodes form a sheet.
-pub fn is_sheet<L: Language>(language: &L, nodes: &[Node]) -> bool
-    requires { length nodes.now ≤ 1000 }
-    ensures { MatchBool result (Sheet (L.grammar language.now) nodes.now) (Sheet (L.grammar language.now) nodes.now → ⊥) }
-{
-    if !is_used(nodes, 0) {
-        return false;
-    }
-    for n in 0..nodes.len() {
-        if !is_good(language, nodes, n as u16) {
-            return false;
+    // Whether the node, which is in use, hangs as it should; where it does not, the nodes form no sheet.
+    fn hangs(&self) -> bool
+        requires { Used self.now.table.nodes.now self.now.n }
+        ensures { MatchBool result (Hangs (L.grammar self.now.language.now) self.now.table.nodes.now self.now.n) (Sheet (L.grammar self.now.language.now) self.now.table.nodes.now → ⊥) }
+    {
+        let node = self.node();
+        if self.n == 0 {
+            node.parent == NONE
+        } else if node.parent == NONE {
+            !is_hole(self.language, node.production)
+        } else {
+            is_used(self.table.nodes, node.parent) && self.is_one_child_of(node.parent)
         }
     }
-    true
+
+    // Whether the node, which is in use, is in order; where it is not, the nodes form no sheet.
+    fn is_in_order(&self) -> bool
+        requires { Used self.now.table.nodes.now self.now.n }
+        ensures { MatchBool result (InOrder (L.grammar self.now.language.now) self.now.table.nodes.now self.now.n) (Sheet (L.grammar self.now.language.now) self.now.table.nodes.now → ⊥) }
+    {
+        self.record_fits() && self.hangs() && self.table.top_of(self.n).is_some()
+    }
+
+    // Whether the node is in order or blank; where it is neither, the nodes form no sheet.
+    fn is_good(&self) -> bool
+        ensures { MatchBool result (Good (L.grammar self.now.language.now) self.now.table.nodes.now self.now.n) (Sheet (L.grammar self.now.language.now) self.now.table.nodes.now → ⊥) }
+    {
+        let node = self.node();
+        if node.used {
+            self.is_in_order()
+        } else {
+            node.is_blank()
+        }
+    }
+}
+
+impl<'a> Table<'a> {
+    // Whether the nodes form a sheet.
+    pub fn is_sheet<L: Language>(self, language: &L) -> bool
+        ensures { MatchBool result (Sheet (L.grammar language.now) self.entry.nodes.now) (Sheet (L.grammar language.now) self.entry.nodes.now → ⊥) }
+    {
+        is_used(self.nodes, 0)
+            && (0..self.nodes.len() as u16).all(|n| Entry::new(language, self, n).is_good())
+    }
 }
