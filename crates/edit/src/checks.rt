@@ -91,8 +91,5 @@ pub(crate) fn check_insert<L: Language>(
     ensures { MatchResult result (λ fields. Met (insert_checks (L.grammar language.now) nodes.now values n production literal) × NewNodes nodes.now (length ((L.grammar language.now).children production)) fields) (First (insert_checks (L.grammar language.now) nodes.now values n production literal)) }
 {
     check_production(language, nodes, values, n, production, literal)?;
-    match new_nodes(nodes, language.children(production).len()) {
-        Some(fields) => Ok(fields),
-        None => Err(EditFault::TooFewNodes(n)),
-    }
+    new_nodes(nodes, language.children(production).len()).ok_or(EditFault::TooFewNodes(n))
 }

@@ -9,10 +9,11 @@ use crate::checks::check_at_node;
 use crate::clipping_checks::check_no_hole;
 use crate::fault::EditFault;
 use crate::fresh::next_free;
-use crate::hang::{hang, put_hole};
+use crate::hang::hang;
+use crate::records::hole_node;
 use crate::rows::blank_node;
 use grammar::{Figure, Language};
-use table::Node;
+use table::{NONE, Node};
 
 // What cut checks; it answers the number for the new hole.
 fn check_cut<L: Language>(
@@ -25,10 +26,7 @@ fn check_cut<L: Language>(
 {
     check_at_node(language, nodes, values, n)?;
     check_no_hole(language, nodes, n)?;
-    match next_free(nodes, nodes.len() as u16) {
-        Some(hole) => Ok(hole),
-        None => Err(EditFault::TooFewNodes(n)),
-    }
+    next_free(nodes, nodes.len() as u16).ok_or(EditFault::TooFewNodes(n))
 }
 
 // Cuts the subtree at a node out; answers the number of the hole in its place.
@@ -42,7 +40,7 @@ pub fn cut<L: Language>(
 {
     let hole = check_cut(language, nodes, values.len(), node)?;
     let symbol = language.symbol(nodes[node as usize].production);
-    put_hole(nodes, hole, symbol);
+    nodes[usize::from(hole)] = hole_node(symbol, NONE);
     hang(nodes, hole, node);
     blank_node::<L>(values, hole);
     Ok(hole)

@@ -5,7 +5,6 @@ ghost use Rattle.edit.specs.Calls.{DiscardCall};
 ghost use Rattle.edit.specs.Gathering.{Gathered, Freed, ClippingFreed};
 
 use crate::fault::EditFault;
-use crate::records::free_node;
 use grammar::{Figure, Language};
 use table::{Node, begin, check_buffer, is_clipping_root, top_of};
 
@@ -14,10 +13,7 @@ fn climbs_to(nodes: &[Node], root: u16, n: u16) -> bool
     requires { length nodes.now ≤ 1000 }
     ensures { MatchBool result (Climb nodes.now root n) (Climb nodes.now root n → ⊥) }
 {
-    match top_of(nodes, n) {
-        Some(top) => top == root,
-        None => false,
-    }
+    top_of(nodes, n) == Some(root)
 }
 
 // Lists the nodes whose climb ends at a root, in the first slots. Answers how many there are.
@@ -36,12 +32,12 @@ fn gather(nodes: &[Node], root: u16, slots: &mut [u16]) -> usize
 }
 
 // Frees the listed nodes.
-fn free_listed(nodes: &mut [Node], slots: &[u16], count: usize)
-    requires { (count ≤ length slots.now) × ((k : ℕ) → k < count → slice_index slots.now k < length nodes.old) }
-    ensures { Freed slots.now count nodes.old nodes.new }
+fn free_listed(nodes: &mut [Node], listed: &[u16])
+    requires { (k : ℕ) → k < length listed.now → slice_index listed.now k < length nodes.old }
+    ensures { Freed listed.now (length listed.now) nodes.old nodes.new }
 {
-    for k in 0..count {
-        nodes[slots[k] as usize] = free_node();
+    for n in listed {
+        nodes[usize::from(*n)] = Node::FREE;
     }
 }
 
@@ -51,7 +47,7 @@ fn free_clipping(nodes: &mut [Node], root: u16, waiting: &mut [u16])
     ensures { ClippingFreed root nodes.old nodes.new waiting.old waiting.new }
 {
     let count = gather(nodes, root, waiting);
-    free_listed(nodes, waiting, count);
+    free_listed(nodes, &waiting[..count]);
 }
 
 // Frees the nodes of the clipping with a root. The waiting list has to have an entry for each node; those entries may change.

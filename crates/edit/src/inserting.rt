@@ -11,7 +11,7 @@ use crate::fault::EditFault;
 use crate::records::hole_node;
 use crate::rows::blank_node;
 use grammar::Language;
-use table::{NONE, Node};
+use table::Node;
 
 // Gives a node another production, literal and children.
 fn set_production(nodes: &mut [Node], n: u16, production: u8, literal: i32, children: [u16; 3])
@@ -26,21 +26,13 @@ fn set_production(nodes: &mut [Node], n: u16, production: u8, literal: i32, chil
     };
 }
 
-// Puts a hole down.
-fn put_hole(nodes: &mut [Node], n: u16, symbol: u8, parent: u16)
-    requires { n < length nodes.old }
-    ensures { nodes.new ≡ slice_set nodes.old n (hole_record symbol parent) }
-{
-    nodes[n as usize] = hole_node(symbol, parent);
-}
-
 // Puts holes of some symbols down under a parent.
 fn put_holes(nodes: &mut [Node], symbols: &[u8], parent: u16, at: [u16; 3])
     requires { (length symbols.now ≤ 3) × (Apart (length nodes.old) (length symbols.now) «at») }
     ensures { Planted symbols.now parent «at» (length symbols.now) nodes.old nodes.new }
 {
-    for k in 0..symbols.len() {
-        put_hole(nodes, at[k], symbols[k], parent);
+    for (symbol, n) in symbols.iter().zip(at) {
+        nodes[usize::from(n)] = hole_node(*symbol, parent);
     }
 }
 
@@ -49,8 +41,8 @@ fn blank_nodes<L: Language>(values: &mut [L::Row], at: [u16; 3], count: usize)
     requires { (count ≤ 3) × (Roomy (length values.old) count «at») }
     ensures { Blanked (λ row. L.Value.Figure.means (L.Value.Figure.reads row)) L.Value.Figure.nothing (take count «at») values.old values.new }
 {
-    for k in 0..count {
-        blank_node::<L>(values, at[k]);
+    for n in at.into_iter().take(count) {
+        blank_node::<L>(values, n);
     }
 }
 

@@ -5,7 +5,7 @@ ghost use Rattle.edit.specs.Edits.{Made};
 ghost use Rattle.edit.specs.Starting.{FreeTo, HolesPut};
 
 use crate::fault::EditFault;
-use crate::records::{free_node, hole_node};
+use crate::records::hole_node;
 use crate::rows::blank_first;
 use grammar::{Figure, Language};
 use table::{NONE, Node, check_memory};
@@ -14,9 +14,7 @@ use table::{NONE, Node, check_memory};
 fn free_all(nodes: &mut [Node])
     ensures { FreeTo (length nodes.old) nodes.new }
 {
-    for n in 0..nodes.len() {
-        nodes[n] = free_node();
-    }
+    nodes.fill(Node::FREE);
 }
 
 // Puts holes for the children of production 0 at the highest numbers. Answers the child fields.
@@ -25,7 +23,7 @@ fn put_holes<L: Language>(language: &L, nodes: &mut [Node]) -> [u16; 3]
     ensures { HolesPut (L.grammar language.now) (length ((L.grammar language.now).children 0)) nodes.old nodes.new result }
 {
     let symbols = language.children(0);
-    let mut children = [NONE, NONE, NONE];
+    let mut children = [NONE; 3];
     for k in 0..symbols.len() {
         let n = nodes.len() - 1 - k;
         nodes[n] = hole_node(symbols[k], 0);
@@ -42,10 +40,8 @@ fn put_start<L: Language>(language: &L, nodes: &mut [Node])
     let children = put_holes(language, nodes);
     nodes[0] = Node {
         used: true,
-        production: 0,
-        literal: 0,
-        parent: NONE,
         children,
+        ..Node::FREE
     };
 }
 

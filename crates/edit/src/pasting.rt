@@ -3,7 +3,7 @@ ghost use Rattle.edit.specs.Calls.{PasteCall};
 
 use crate::clipping_checks::check_paste;
 use crate::fault::EditFault;
-use crate::hang::{free_node, hang};
+use crate::hang::hang;
 use grammar::{Figure, Language};
 use table::Node;
 
@@ -18,6 +18,6 @@ pub fn paste<L: Language>(
 {
     check_paste(language, nodes, values.len(), root, node)?;
     hang(nodes, root, node);
-    free_node(nodes, node);
+    nodes[usize::from(node)] = Node::FREE;
     Ok(())
 }
