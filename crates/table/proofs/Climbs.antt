@@ -55,12 +55,13 @@ module _ (ns : List Node) (few : length ns ≤ none) where
       (λ i lt. let (m, a) = after ns r n c i (omega arith) in (m, (climb_used ns r m a.0).0, a))
 
 -- i steps from node n lead to node m, and the climb from n is the one from m with these before it
-abbrev pub Walked : List Node → ℕ → ℕ → ℕ → Type 0
-Walked ns n i m = ((r : ℕ) → Climb ns r m → Climb ns r n) × ((r : ℕ) (c : Climb ns r n) → After ns r n c i m)
+pub record Walked (ns : List Node) (n i m : ℕ) : Type 0 where
+  pub back : (r : ℕ) → Climb ns r m → Climb ns r n
+  pub on : (r : ℕ) (c : Climb ns r n) → After ns r n c i m
 
 module _ (ns : List Node) (n : ℕ) where
   pub walked_start : Walked ns n 0 n
-  walked_start = (λ r c. c, λ r c. (c, omega arith))
+  walked_start = record { back = λ r c. c; on = λ r c. (c, omega arith) }
 
   up_one : (r m : ℕ) (d : Climb ns r m) → ((at ns m).parent ≡ none → ⊥) → After ns r m d 1 (at ns m).parent
   up_one r m (ends u p e) further = absurd (further p)
@@ -69,16 +70,19 @@ module _ (ns : List Node) (n : ℕ) where
       subst P (sym p) (d, omega arith)
 
   pub walked_on : (i m : ℕ) → Walked ns n i m → Used ns m → ((at ns m).parent ≡ none → ⊥) → Walked ns n (i + 1) (at ns m).parent
-  walked_on i m w u further = (
-    λ r c. w.0 r (goes_on (at ns m).parent u refl c),
-    λ r c. let (d, e) = w.1 r c in let (d', e') = up_one r m d further in (d', omega arith),
-  )
+  walked_on i m w u further = record {
+    back = λ r c. w.back r (goes_on (at ns m).parent u refl c);
+    on = λ r c. let (d, e) = w.on r c in let (d', e') = up_one r m d further in (d', omega arith);
+  }
 
   pub walked_ends : (i m : ℕ) → Walked ns n i m → Used ns m → (at ns m).parent ≡ none → Climb ns m n
-  walked_ends i m w u p = w.0 m (ends u p refl)
+  walked_ends i m w u p = w.back m (ends u p refl)
 
   pub walked_lost : (i m : ℕ) → Walked ns n i m → (Used ns m → ⊥) → (r : ℕ) → Climb ns r n → ⊥
-  walked_lost i m w lost r c = lost (climb_used ns r m (w.1 r c).0)
+  walked_lost i m w lost r c = lost (climb_used ns r m (w.on r c).0)
 
-  pub walked_out : length ns ≤ none → (i m : ℕ) → length ns ≤ i → Walked ns n i m → (r : ℕ) → Climb ns r n → ⊥
-  walked_out few i m all w r c = let short = climb_short ns few r n c in let (d, e) = w.1 r c in omega arith
+  pub walked_out : (i m : ℕ) → Walked ns n i m → length ns ≤ none → length ns ≤ i → (r : ℕ) → Climb ns r n → ⊥
+  walked_out i m w few all r c = let short = climb_short ns few r n c in let (d, e) = w.on r c in omega arith
+
+-- what a bounded climb finds out, step by step
+pub ruleset walks = (walked_start, walked_on, walked_ends, walked_lost, walked_out)

@@ -1,57 +1,76 @@
 // Climbing from a node by its parents, and what that tells of the node.
-ghost use Rattle.std.specs.Prelude.{ℕ, ◌≤◌, length, MatchBool, MatchOption};
+ghost use Rattle.std.specs.Prelude.{◌≡◌, ℕ, ◌≤◌, [], ◌∷◌, length, MatchBool, MatchOption};
+ghost use Rattle.table.specs.Checks.{on_sheet};
 ghost use Rattle.table.specs.Climbing.{Climb, OnSheet};
 ghost use Rattle.table.specs.Nodes.{Used};
+ghost use Rattle.table.specs.Refusals.{Answer};
 ghost use Rattle.table.specs.Sheets.{ClippingRoot};
 
+use crate::fault::TableFault;
 use crate::node::{NONE, Node};
+
+// A table of at most 1000 nodes, lent for reading.
+#[derive(Clone, Copy)]
+pub struct Table<'a> {
+    pub nodes: &'a [Node],
+    ghost few: { length nodes.now ≤ 1000 },
+}
+
+impl<'a> Table<'a> {
+    pub fn new(nodes: &'a [Node]) -> Table<'a>
+        requires { length nodes.now ≤ 1000 }
+        ensures { result.nodes.now ≡ nodes.now }
+    {
+        Table { nodes }
+    }
+
+    // The node at which the climb from node n ends. A climb of as many steps as there are nodes never ends.
+    #[tactic(auto, using(crate::proofs::Climbs::walks))]
+    pub fn top_of(self, n: u16) -> Option<u16>
+        ensures { MatchOption result ((top : ℕ) → Climb self.entry.nodes.now top n → ⊥) (λ top. Climb self.entry.nodes.now top n) }
+    {
+        let mut reached = n;
+        for _step in 0..self.nodes.len() {
+            if !is_used(self.nodes, reached) {
+                return None;
+            }
+            let parent = self.nodes[reached as usize].parent;
+            if parent == NONE {
+                return Some(reached);
+            }
+            reached = parent;
+        }
+        None
+    }
+
+    // Whether node n is on the sheet.
+    pub fn is_on_sheet(self, n: u16) -> bool
+        ensures { MatchBool result (OnSheet self.entry.nodes.now n) (OnSheet self.entry.nodes.now n → ⊥) }
+    {
+        self.top_of(n) == Some(0)
+    }
+
+    // Refuses a node that is not on the sheet.
+    pub fn check_on_sheet(self, n: u16) -> Result<(), TableFault>
+        ensures { Answer (on_sheet self.entry.nodes.now n ∷ []) result }
+    {
+        if !self.is_on_sheet(n) {
+            return Err(TableFault::NotOnSheet(n));
+        }
+        Ok(())
+    }
+}
 
 // Whether node n is in the table and in use.
 pub fn is_used(nodes: &[Node], n: u16) -> bool
     ensures { MatchBool result (Used nodes.now n) (Used nodes.now n → ⊥) }
 {
-    if n as usize >= nodes.len() {
-        return false;
-    }
-    nodes[n as usize].used
-}
-
-// The node at which the climb from node n ends. A climb of as many steps as there are nodes never ends.
-pub fn top_of(nodes: &[Node], n: u16) -> Option<u16>
-    requires { length nodes.now ≤ 1000 }
-    ensures { MatchOption result ((top : ℕ) → Climb nodes.now top n → ⊥) (λ top. Climb nodes.now top n) }
-{
-    let mut reached = n;
-    for _step in 0..nodes.len() {
-        if !is_used(nodes, reached) {
-            return None;
-        }
-        let parent = nodes[reached as usize].parent;
-        if parent == NONE {
-            return Some(reached);
-        }
-        reached = parent;
-    }
-    None
-}
-
-// Whether node n is on the sheet.
-pub fn is_on_sheet(nodes: &[Node], n: u16) -> bool
-    requires { length nodes.now ≤ 1000 }
-    ensures { MatchBool result (OnSheet nodes.now n) (OnSheet nodes.now n → ⊥) }
-{
-    match top_of(nodes, n) {
-        Some(top) => top == 0,
-        None => false,
-    }
+    nodes.get(n as usize).is_some_and(|node| node.used)
 }
 
 // Whether node n is the root of a clipping.
 pub fn is_clipping_root(nodes: &[Node], n: u16) -> bool
     ensures { MatchBool result (ClippingRoot nodes.now n) (ClippingRoot nodes.now n → ⊥) }
 {
-    if n == 0 || !is_used(nodes, n) {
-        return false;
-    }
-    nodes[n as usize].parent == NONE
+    n != 0 && is_used(nodes, n) && nodes[n as usize].parent == NONE
 }

@@ -10,9 +10,9 @@ pub mod sheet_test;
 pub mod stack;
 pub mod trees;
 
-pub use checks::{begin, check_buffer, check_memory, check_on_sheet};
-pub use climb::{is_clipping_root, is_on_sheet, is_used, top_of};
+pub use checks::{View, check_buffer};
+pub use climb::{Table, is_clipping_root, is_used};
 pub use fault::TableFault;
 pub use node::{NONE, Node};
-pub use sheet_test::{is_hole, is_sheet};
+pub use sheet_test::is_hole;
 pub use stack::Stack;

@@ -4,7 +4,7 @@ ghost use Rattle.table.specs.Nodes.{at as record_at, Used};
 ghost use Rattle.table.specs.Sheets.{Hole, ChildAt, OneChildOf, Hangs, InOrder, Good, Sheet};
 ghost use Rattle.table.specs.Testing.{ChildrenFit, RecordFits};
 
-use crate::climb::{is_used, top_of};
+use crate::climb::{Table, is_used};
 use crate::node::{NONE, Node};
 use crate::record_test::{child_of, is_blank, is_once_among, no_child_from};
 use grammar::Language;
@@ -110,46 +110,34 @@ fn record_fits<L: Language>(language: &L, nodes: &[Node], n: u16) -> bool
     no_child_from(&node, language.children(node.production).len())
 }
 
-// Whether a used node is in order; where it is not, the nodes form no sheet.
-fn is_in_order<L: Language>(language: &L, nodes: &[Node], n: u16) -> bool
-    requires { (length nodes.now ≤ 1000) × (Used nodes.now n) }
-    ensures { MatchBool result (InOrder (L.grammar language.now) nodes.now n) (Sheet (L.grammar language.now) nodes.now → ⊥) }
-{
-    if !record_fits(language, nodes, n) {
-        return false;
+impl<'a> Table<'a> {
+    // Whether a used node is in order; where it is not, the nodes form no sheet.
+    fn is_in_order<L: Language>(self, language: &L, n: u16) -> bool
+        requires { Used self.nodes.now n }
+        ensures { MatchBool result (InOrder (L.grammar language.now) self.entry.nodes.now n) (Sheet (L.grammar language.now) self.entry.nodes.now → ⊥) }
+    {
+        record_fits(language, self.nodes, n)
+            && hangs(language, self.nodes, n)
+            && self.top_of(n).is_some()
     }
-    if !hangs(language, nodes, n) {
-        return false;
-    }
-    match top_of(nodes, n) {
-        Some(_) => true,
-        None => false,
-    }
-}
 
-// Whether node n is in order or blank; where it is neither, the nodes form no sheet.
-fn is_good<L: Language>(language: &L, nodes: &[Node], n: u16) -> bool
-    requires { (length nodes.now ≤ 1000) × (n < length nodes.now) }
-    ensures { MatchBool result (Good (L.grammar language.now) nodes.now n) (Sheet (L.grammar language.now) nodes.now → ⊥) }
-{
-    if nodes[n as usize].used {
-        return is_in_order(language, nodes, n);
-    }
-    is_blank(&nodes[n as usize])
-}
-
-// Whether the nodes form a sheet.
-pub fn is_sheet<L: Language>(language: &L, nodes: &[Node]) -> bool
-    requires { length nodes.now ≤ 1000 }
-    ensures { MatchBool result (Sheet (L.grammar language.now) nodes.now) (Sheet (L.grammar language.now) nodes.now → ⊥) }
-{
-    if !is_used(nodes, 0) {
-        return false;
-    }
-    for n in 0..nodes.len() {
-        if !is_good(language, nodes, n as u16) {
-            return false;
+    // Whether node n is in order or blank; where it is neither, the nodes form no sheet.
+    fn is_good<L: Language>(self, language: &L, n: u16) -> bool
+        requires { n < length self.nodes.now }
+        ensures { MatchBool result (Good (L.grammar language.now) self.entry.nodes.now n) (Sheet (L.grammar language.now) self.entry.nodes.now → ⊥) }
+    {
+        if self.nodes[n as usize].used {
+            self.is_in_order(language, n)
+        } else {
+            is_blank(&self.nodes[n as usize])
         }
     }
-    true
+
+    // Whether the nodes form a sheet.
+    pub fn is_sheet<L: Language>(self, language: &L) -> bool
+        ensures { MatchBool result (Sheet (L.grammar language.now) self.entry.nodes.now) (Sheet (L.grammar language.now) self.entry.nodes.now → ⊥) }
+    {
+        is_used(self.nodes, 0)
+            && (0..self.nodes.len()).all(|n| self.is_good(language, n as u16))
+    }
 }

@@ -1,5 +1,0 @@
-use Rattle.table.proofs.Climbs.{Walked}
-use Rattle.table.proofs.climb.top_of.Given as goal
-
-abbrev pub invariant-loop-step : goal.invariant-loop-step
-invariant-loop-step l = Walked l.nodes l.n l._step l.reached
