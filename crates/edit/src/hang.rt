@@ -12,7 +12,10 @@ fn place_of(node: &Node, child: u16) -> usize
     requires { (place : ℕ) × (place < 3) × (child_field node.now place ≡ child) }
     ensures { (result < 3) × (child_field node.now result ≡ child) }
 {
-    node.children.iter().position(|named| *named == child).unwrap()
+    node.children
+        .iter()
+        .position(|named| *named == child)
+        .unwrap()
 }
 
 // Hangs a root in a node's place; the node has no parent then.

@@ -18,7 +18,7 @@ pub(crate) fn blank_node<L: Language>(values: &mut [L::Row], n: u16)
     requires { 4 * n + 4 ≤ length values.old }
     ensures { Blanked (λ row. L.Value.Figure.means (L.Value.Figure.reads row)) L.Value.Figure.nothing (n ∷ []) values.old values.new }
 {
-    let first = 4 * usize::from(n);
+    let first = 4 * n as usize;
     store_in_all(&mut values[first..first + 4], L::Value::blank().store());
 }
 
