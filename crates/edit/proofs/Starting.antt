@@ -1,12 +1,10 @@
 -- A new sheet: in a table of free nodes the new nodes have the highest numbers, and holes there and node 0 make the sheet.
-use Rattle.std.proofs.Common.{◌≡◌, ℕ, zero, suc, ◌+◌, ◌-◌, ◌<◌, ◌≤◌, true, ◌≢◌, List, [], ◌∷◌, length, get_or, take, set, pos, Option, Some, None, MatchOption, IsSome, sym, refl, ap, ◌∙◌, subst, arith, length-set}
+use Rattle.std.proofs.Common.{◌≡◌, ℕ, zero, suc, ◌-◌, ◌<◌, ◌≤◌, true, ◌≢◌, List, ◌∷◌, length, get_or, take, set, pos, Option, Some, None, MatchOption, IsSome, sym, refl, ap, ◌∙◌, arith, length-set}
 use Rattle.std.proofs.lemmas.List.{get_or-set_same, get_or-set_other, get_or_default}
-use Rattle.grammar.specs.Grammar.{Grammar, child}
-use Rattle.grammar.specs.Limits.{Limits}
-use Rattle.grammar.specs.Text.{Segment}
+use Rattle.grammar.specs.Grammar.{Grammar}
 use Rattle.table.specs.declared.node.Node.{Node}
 use Rattle.table.specs.Nodes.{none, nowhere, at}
-use Rattle.edit.specs.Fresh.{free_below, free_numbers, free_record, hole_record, three, NewNodes}
+use Rattle.edit.specs.Fresh.{free_below, free_numbers, hole_record, three, NewNodes}
 use Rattle.edit.specs.Edits.{highest, Made}
 use Rattle.edit.specs.Planting.{Planted, Apart}
 use Rattle.edit.specs.Starting.{FreeTo}

@@ -1,6 +1,6 @@
 use Rattle.std.proofs.Common.{[], ◌∷◌, ◌++◌}
 use Rattle.table.proofs.Climbs.{climb_used}
-use Rattle.table.proofs.Refusing.{handed_on, met_both}
+use Rattle.table.proofs.Refusing.{handed_on}
 use Rattle.edit.specs.Checks.{hole_at, same_symbol, with_a_clipping}
 use Rattle.edit.proofs.clipping_checks.check_paste.Goals as goal
 

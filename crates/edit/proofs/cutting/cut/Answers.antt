@@ -1,12 +1,8 @@
-use Rattle.std.proofs.Common.{List, length, sym, subst}
-use Rattle.table.specs.declared.node.Node.{Node}
-use Rattle.table.specs.Nodes.{at}
+use Rattle.std.proofs.Common.{length}
 use Rattle.table.proofs.Climbs.{climb_used}
 use Rattle.edit.specs.Checks.{cut_checks}
-use Rattle.edit.specs.Edits.{Exchanged}
-use Rattle.edit.specs.Hanging.{Hangable}
 use Rattle.edit.specs.Calls.{CutWork}
-use Rattle.edit.proofs.CutDone.{placed, hole_hangable, cut_done}
+use Rattle.edit.proofs.CutDone.{hole_hangable, cut_done}
 use Rattle.edit.proofs.Editing.{refused}
 use Rattle.edit.proofs.cutting.cut.Goals as goal
 

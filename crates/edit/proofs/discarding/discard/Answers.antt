@@ -1,4 +1,4 @@
-use Rattle.std.proofs.Common.{List, length, subst, arith}
+use Rattle.std.proofs.Common.{List, length, subst}
 use Rattle.table.specs.declared.node.Node.{Node}
 use Rattle.edit.specs.Gathering.{Gathered}
 use Rattle.edit.proofs.FreedClipping.{discard_work}
@@ -16,9 +16,9 @@ returns g c =
     let room = c.in_ok-check_buffer.ensures in
     let root = c.if-not-is_clipping_root.ensures in
     let freed =
-        clipping_freed c.args.root c.gather-count.result c.args.nodes.now c.free_listed.new.nodes c.args.waiting.now c.gather-count.new.slots room.0
-        (subst (λ (ns : List Node). Gathered ns c.args.root (length ns) c.args.waiting.now c.gather-count.new.slots c.gather-count.result) c.in_ok-table.ensures.table c.gather-count.ensures)
-        c.free_listed.ensures
+    clipping_freed c.args.root c.gather-count.result c.args.nodes.now c.free_listed.new.nodes c.args.waiting.now c.gather-count.new.slots room.0
+    (subst (λ (ns : List Node). Gathered ns c.args.root (length ns) c.args.waiting.now c.gather-count.new.slots c.gather-count.result) c.in_ok-table.ensures.table c.gather-count.ensures)
+    c.free_listed.ensures
     in (
       (
         (met.0, (met.1.0, (met.1.1.0, (room.0, (root, tt))))),

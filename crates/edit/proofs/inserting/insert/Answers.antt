@@ -16,9 +16,9 @@ set_production-requires g c =
 pub put_holes-requires : goal.put_holes-requires
 put_holes-requires g c = (
   fields_enough (g.L.Language.grammar c.args.language.now) (g.L.Language.text c.args.language.now) (g.L.Language.limits c.args.language.now) c.args.nodes.now (length c.args.values.now) c.args.n c.args.production c.args.literal _ (to_z-of_z c.ranges.literal)
-    c.in_ok-at.at c.children-symbols.result.now c.children-symbols.ensures c.in_ok-at.ensures,
+      c.in_ok-at.at c.children-symbols.result.now c.children-symbols.ensures c.in_ok-at.ensures,
   fields_apart (g.L.Language.grammar c.args.language.now) (g.L.Language.text c.args.language.now) (g.L.Language.limits c.args.language.now) c.args.nodes.now (length c.args.values.now) c.args.n c.args.production c.args.literal _ (to_z-of_z c.ranges.literal)
-    c.in_ok-at.at c.children-symbols.result.now c.children-symbols.ensures c.in_ok-at.ensures c.set_production.new.nodes c.set_production.auto.nodes,
+      c.in_ok-at.at c.children-symbols.result.now c.children-symbols.ensures c.in_ok-at.ensures c.set_production.new.nodes c.set_production.auto.nodes,
 )
 
 pub blank_nodes-requires : goal.blank_nodes-requires

@@ -1,4 +1,4 @@
-use Rattle.std.proofs.Common.{length, ◌≤◌, refl, ap, arith, rules}
+use Rattle.std.proofs.Common.{length, refl, ap, arith, rules}
 use Rattle.table.proofs.Children.{few_children}
 use Rattle.edit.specs.Fresh.{NewNodes}
 use Rattle.edit.proofs.Starting.{some_found, enough_free, holes_apart, made_of}

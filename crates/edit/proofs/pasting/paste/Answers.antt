@@ -1,4 +1,4 @@
-use Rattle.std.proofs.Common.{length, refl, arith}
+use Rattle.std.proofs.Common.{length, refl}
 use Rattle.table.proofs.Climbs.{climb_used}
 use Rattle.table.proofs.Members.{at_most_three}
 use Rattle.edit.specs.Checks.{paste_checks}
