@@ -1,6 +1,6 @@
 -- Insert's work, from the records that its parts write.
 use Rattle.std.proofs.Common.{◌≡◌, ℕ, ◌<◌, ◌≤◌, false, T, List, ◌∷◌, length, get_or, take, set, ℤ, sym, refl, ap, ◌∙◌, subst, inl, inr, arith, length-set}
-use Rattle.std.proofs.lemmas.List.{get_or-set_same, get_or-set_other, get_or_default}
+use Rattle.std.proofs.lemmas.List.{get_or-set_same, get_or-set_other, get_or-take, get_or_default, length-take}
 use Rattle.grammar.specs.Grammar.{Grammar, child}
 use Rattle.grammar.specs.Limits.{Limits}
 use Rattle.grammar.specs.Text.{Segment}
@@ -98,8 +98,17 @@ module _ (g : Grammar) (text : ℕ → List Segment) (limits : Limits g text) (b
   pub fields_apart : (mid : List Node) → length mid ≡ length before → Apart (length mid) (length cs) fields
   fields_apart mid e = rw (e, cs_are) (new_apart before (length (g.children p)) fields few_fields found.1)
 
-  pub fields_roomy : Roomy room (length cs) fields
-  fields_roomy = rw cs_are (new_roomy before (length (g.children p)) fields few_fields found.1 room met.1.0.room)
+  -- there are three fields
+  pub fields_enough : length cs ≤ length fields
+  fields_enough = omega (arith, few_symbols, ap length found.1.named)
+
+  pub fields_roomy : Roomy room (length (take (length cs) fields)) (take (length cs) fields)
+  fields_roomy k h =
+      let inside : k < length cs = omega (arith, h, length-take (length cs) fields) in
+      rw (get_or-take (length cs) fields k 0 inside) (all k inside)
+    where
+      all : Roomy room (length cs) fields
+      all = rw cs_are (new_roomy before (length (g.children p)) fields few_fields found.1 room met.1.0.room)
 
   pub insert_done : {R M : Type 0} (meaning : R → M) (nothing : M) (mid after : List Node) (values values' : List R) → mid ≡ set before n (with_production (at before n) p l' fields) → Planted cs n fields (length cs) mid after → Blanked meaning nothing (take (length cs) fields) values values'
       → Met (insert_checks g before room n p l) × InsertWork g meaning nothing before values after values' n p l

@@ -1,5 +1,7 @@
 -- The free nodes below a number, one by one, and the child fields that name the first of them.
-use Rattle.std.proofs.Common.{◌≡◌, ℕ, zero, suc, ◌+◌, ◌-◌, ◌<◌, ◌≤◌, true, false, List, [], ◌∷◌, length, take, drop, set, sym, refl, ap, ◌∙◌, arith}
+use Rattle.std.proofs.Common.{◌≡◌, ℕ, zero, suc, ◌+◌, ◌-◌, ◌<◌, ◌≤◌, true, false, List, [], ◌∷◌, ◌++◌, length, take, drop, set, sym, refl, ap, ◌∙◌, arith, length-set}
+use Rattle.std.proofs.lemmas.List.{length-take-le}
+use Rattle.std.proofs.Math.Seq.{take-set-lt}
 use Rattle.table.specs.declared.node.Node.{Node}
 use Rattle.table.specs.Nodes.{none, at}
 use Rattle.edit.specs.Fresh.{free_below, free_numbers, three, NextFree}
@@ -61,3 +63,40 @@ named_out ns k below count fields h named e = omega (arith, h, used_up (free_num
     used_up [] k e = omega arith
     used_up (x ∷ free) zero e = absurd (let z : ◌≡◌ {A = ℕ} 0 1 = cc in omega arith)
     used_up (x ∷ free) (suc k) e = omega (arith, used_up free k e)
+
+-- The same of the fields for some new nodes alone, the first of the three.
+pub record NamedOf (ns : List Node) (count k below : ℕ) (fields : List ℕ) : Type 0 where
+  pub all : List ℕ
+  pub named : Named ns k below all
+  pub part : fields ≡ take count all
+  pub size : length all ≡ 3
+
+pub named_of_none : (ns : List Node) (count : ℕ) → NamedOf ns count 0 (length ns) (take count (none ∷ none ∷ none ∷ []))
+named_of_none ns count = record { all = none ∷ none ∷ none ∷ []; named = named_none ns; part = refl; size = refl }
+
+pub named_of_more : (ns : List Node) (count k below n : ℕ) (fields : List ℕ) → count ≤ 3 → k < length fields → NamedOf ns count k below fields → NextFree ns below n → NamedOf ns count (k + 1) n (set fields k n)
+named_of_more ns count k below n fields few h so_far next = record {
+  all = set so_far.all k n;
+  named = named_more ns k below n so_far.all (omega (arith, inside)) so_far.named next;
+  part = ap (λ xs. set xs k n) so_far.part ∙ sym (take-set-lt count so_far.all k n inside);
+  size = length-set so_far.all k n ∙ so_far.size;
+}
+  where
+    inside : k < count
+    inside = omega (arith, h, ap length so_far.part, length-take-le count so_far.all (omega (arith, so_far.size)))
+
+-- all of them, with none behind them
+pub named_of_all : (ns : List Node) (count below : ℕ) (fields : List ℕ) → count ≤ 3 → NamedOf ns count count below fields → fields ++ drop count (none ∷ none ∷ none ∷ []) ≡ three (take count (free_numbers ns))
+named_of_all ns count below fields few so_far =
+    ap (λ xs. xs ++ drop count (none ∷ none ∷ none ∷ [])) (so_far.part ∙ ap (take count) so_far.named.fields_are)
+    ∙ filled_up (free_numbers ns) count few so_far.named.enough
+  where
+    filled_up : (free : List ℕ) (count : ℕ) → count ≤ 3 → count ≤ length free → take count (three (take count free)) ++ drop count (none ∷ none ∷ none ∷ []) ≡ three (take count free)
+    filled_up free zero h enough = refl
+    filled_up [] (suc count) h enough = absurd (omega arith)
+    filled_up (x ∷ free) (suc zero) h enough = refl
+    filled_up (x ∷ []) (suc (suc count)) h enough = absurd (omega arith)
+    filled_up (x ∷ y ∷ free) (suc (suc zero)) h enough = refl
+    filled_up (x ∷ y ∷ []) (suc (suc (suc count))) h enough = absurd (omega arith)
+    filled_up (x ∷ y ∷ z ∷ free) (suc (suc (suc zero))) h enough = refl
+    filled_up (x ∷ y ∷ z ∷ free) (suc (suc (suc (suc count)))) h enough = absurd (omega arith)

@@ -1,6 +1,7 @@
 -- Listing the nodes of a clipping and freeing the listed nodes, step by step.
-use Rattle.std.proofs.Common.{◌≡◌, ℕ, ◌+◌, ◌<◌, ◌≤◌, eqb, ◌≢◌, List, length, get_or, set, MatchBool, sym, refl, ap, ◌∙◌, subst, inl, inr, arith, length-set}
-use Rattle.std.proofs.lemmas.List.{get_or-set_same, get_or-set_other}
+use Rattle.std.proofs.Common.{◌≡◌, ℕ, ◌+◌, ◌<◌, ◌≤◌, eqb, ◌≢◌, List, length, get_or, take, set, Option, Some, None, MatchBool, MatchOption, sym, refl, ap, ◌∙◌, subst, inl, inr, arith, length-set}
+use Rattle.std.proofs.lemmas.List.{get_or-set_same, get_or-set_other, get_or-take, length-take, length-take-le}
+use Rattle.std.specs.Option.{option_eq}
 use Rattle.table.specs.declared.node.Node.{Node}
 use Rattle.table.specs.Nodes.{none, nowhere, at}
 use Rattle.table.specs.Climbing.{Climb}
@@ -14,6 +15,11 @@ use Rattle.edit.specs.Gathering.{Listed, Gathered, Freed, ClippingFreed}
 -- a climb's top tells whether the climb ends at a root
 pub by_top : (ns : List Node) → length ns ≤ none → (top root n : ℕ) → Climb ns top n → MatchBool (eqb top root) (Climb ns root n) (Climb ns root n → ⊥)
 by_top ns few top root n c = by_equal top root (λ e. subst (λ (r : ℕ). Climb ns r n) e c) (λ ne d. ne (climb_unique ns few top root n c d))
+
+-- what was found of the climb's top tells it
+pub by_found : (ns : List Node) → length ns ≤ none → (found : Option ℕ) (root n : ℕ) → MatchOption found ((top : ℕ) → Climb ns top n → ⊥) (λ top. Climb ns top n) → MatchBool (option_eq eqb found (Some root)) (Climb ns root n) (Climb ns root n → ⊥)
+by_found ns few None root n out = out root
+by_found ns few (Some top) root n c = by_top ns few top root n c
 
 module _ (ns : List Node) (root : ℕ) (slots : List ℕ) where
   pub gathered_none : Gathered ns root 0 slots slots 0
@@ -85,9 +91,15 @@ module _ (slots : List ℕ) (before : List Node) where
       there : (m : ℕ) → (m ≡ n → ⊥) → at (set after n free_record) m ≡ at after m
       there m other = get_or-set_other after n m free_record nowhere other
 
+-- the listed nodes lie in the table
+pub listed_inside : (root count : ℕ) (before : List Node) (waiting waiting' : List ℕ) → Gathered before root (length before) waiting waiting' count → (k : ℕ) → k < length (take count waiting') → get_or (take count waiting') k 0 < length before
+listed_inside root count before waiting waiting' listed k h =
+    let l : k < count = omega (arith, h, length-take count waiting') in
+    rw (get_or-take count waiting' k 0 l) (climb_used _ _ _ (listed.climbs k l)).0
+
 -- the nodes of the clipping are listed, and the listed nodes freed
-pub clipping_freed : (root count : ℕ) (before after : List Node) (waiting waiting' : List ℕ) → Gathered before root (length before) waiting waiting' count → Freed waiting' count before after → ClippingFreed root before after waiting waiting'
-clipping_freed root count before after waiting waiting' listed done = record {
+pub clipping_freed : (root count : ℕ) (before after : List Node) (waiting waiting' : List ℕ) → length before ≤ length waiting → Gathered before root (length before) waiting waiting' count → Freed (take count waiting') (length (take count waiting')) before after → ClippingFreed root before after waiting waiting'
+clipping_freed root count before after waiting waiting' room listed freed = record {
   records = record {
     many = done.many;
     freed = λ n c.
@@ -97,3 +109,13 @@ clipping_freed root count before after waiting waiting' listed done = record {
   };
   same_waiting = listed.rest;
 }
+  where
+    long : length (take count waiting') ≡ count
+    long = length-take-le count waiting' (omega (arith, listed.few, listed.rest.many))
+
+    done : Freed waiting' count before after
+    done = record {
+      many = freed.many;
+      freed = λ k h. ap (at after) (sym (get_or-take count waiting' k 0 h)) ∙ freed.freed k (omega (arith, long));
+      others = λ n out. freed.others n (λ p. let l : p.0 < count = omega (arith, p.1, long) in out (p.0, l, sym (get_or-take count waiting' p.0 0 l) ∙ p.2));
+    }

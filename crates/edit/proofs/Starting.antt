@@ -1,80 +1,92 @@
--- Freeing every node and putting down the holes of a new sheet, step by step.
-use Rattle.std.proofs.Common.{◌≡◌, ℕ, zero, suc, ◌+◌, ◌-◌, ◌<◌, true, ◌≢◌, List, [], ◌∷◌, length, get_or, set, pos, sym, refl, ap, ◌∙◌, subst, inl, inr, add-one, arith, length-set}
+-- A new sheet: in a table of free nodes the new nodes have the highest numbers, and holes there and node 0 make the sheet.
+use Rattle.std.proofs.Common.{◌≡◌, ℕ, zero, suc, ◌-◌, ◌<◌, ◌≤◌, true, ◌≢◌, List, ◌∷◌, length, get_or, take, set, pos, Option, Some, None, MatchOption, IsSome, sym, refl, ap, ◌∙◌, arith, length-set}
 use Rattle.std.proofs.lemmas.List.{get_or-set_same, get_or-set_other, get_or_default}
-use Rattle.grammar.specs.Grammar.{Grammar, child}
-use Rattle.grammar.specs.Limits.{Limits}
-use Rattle.grammar.specs.Text.{Segment}
+use Rattle.grammar.specs.Grammar.{Grammar}
 use Rattle.table.specs.declared.node.Node.{Node}
 use Rattle.table.specs.Nodes.{none, nowhere, at}
-use Rattle.table.proofs.Replaced.{equal_or_not}
-use Rattle.edit.specs.Fresh.{free_record, hole_record, three}
+use Rattle.edit.specs.Fresh.{free_below, free_numbers, hole_record, three, NewNodes}
 use Rattle.edit.specs.Edits.{highest, Made}
-use Rattle.edit.specs.Starting.{FreeTo, HolesPut}
+use Rattle.edit.specs.Planting.{Planted, Apart}
+use Rattle.edit.specs.Starting.{FreeTo}
 
--- one more node is free
-pub free_more : (n : ℕ) (ns : List Node) (nd : Node) → nd ≡ free_record → n < length ns → FreeTo n ns → FreeTo (n + 1) (set ns n nd)
-free_more n ns nd e inside so_far m h = elim (equal_or_not m n) [
-  | inl q ↦ ap (λ i. at (set ns n nd) i) q.1 ∙ get_or-set_same ns n nd nowhere inside ∙ e
-  | inr q ↦ let less : m < n = omega (arith, q.1) in get_or-set_other ns n m nd nowhere q.1 ∙ so_far m less
-]
+-- what a search found, where it cannot have found nothing
+pub some_found : {A : Type 0} (found : Option A) (Nothing : Type 0) (Something : A → Type 0) → MatchOption found Nothing Something → (Nothing → ⊥) → IsSome found
+some_found None Nothing Something m never = absurd (never m)
+some_found (Some x) Nothing Something m never = refl
 
--- one more child field is set
-fields_more : (nodes k : ℕ) → k < 3 → set (three (highest nodes k)) k (nodes - 1 - k) ≡ three (highest nodes (k + 1))
-fields_more nodes k h = subst (λ (i : ℕ). set (three (highest nodes k)) k (nodes - 1 - k) ≡ three (highest nodes i)) (sym (add-one k)) (go k h)
-  where
-    go : (k : ℕ) → k < 3 → set (three (highest nodes k)) k (nodes - 1 - k) ≡ three (highest nodes (suc k))
-    go zero h = let e : nodes - 1 - 0 ≡ nodes - 1 = omega arith in ap (λ i. i ∷ none ∷ none ∷ []) e
-    go (suc zero) h = refl
-    go (suc (suc zero)) h = let e : nodes - 1 - 2 ≡ nodes - 1 - 1 - 1 = omega arith in ap (λ i. (nodes - 1) ∷ (nodes - 1 - 1) ∷ i ∷ []) e
-    go (suc (suc (suc k))) h = absurd (omega arith)
+down : (n k : ℕ) → highest (suc n) (suc k) ≡ n ∷ highest n k
+down n k = let e : suc n - 1 ≡ n = omega arith in ap (λ m. m ∷ highest m k) e
 
-module _ (g : Grammar) (before : List Node) where
-  pub holes_none : HolesPut g 0 before before (none ∷ none ∷ none ∷ [])
-  holes_none = record { many = refl; children = refl; hole = λ k h. absurd (omega arith); others = λ n h. refl }
+-- all nodes below n are free, the highest first
+all_free : (ns : List Node) (size : ℕ) → FreeTo size ns → (n : ℕ) → n ≤ size → free_below ns n ≡ highest n n
+all_free ns size free zero h = refl
+all_free ns size free (suc n) h = rw (ap (λ nd. nd.used) (free n (omega arith)), free_below) (ap (λ xs. n ∷ xs) (all_free ns size free n (omega arith)) ∙ sym (down n n))
 
-  -- one more hole is put down
-  pub holes_more : (k : ℕ) (after : List Node) (fields : List ℕ) (nd : Node) → HolesPut g k before after fields → k < 3 → k + 1 < length before → nd ≡ hole_record (child g 0 k) 0 → HolesPut g (k + 1) before (set after (length before - 1 - k) nd) (set fields k (length before - 1 - k))
-  holes_more k after fields nd so_far few room e = record {
-    many = length-set after (length before - 1 - k) nd ∙ so_far.many;
-    children = ap (λ xs. set xs k (length before - 1 - k)) so_far.children ∙ fields_more (length before) k few;
-    hole = λ j h. elim (equal_or_not j k) [
-      | inl q ↦ ap (λ i. at (set after (length before - 1 - k) nd) (length before - 1 - i)) q.1 ∙ get_or-set_same after (length before - 1 - k) nd nowhere (omega (arith, so_far.many)) ∙ e ∙ ap (λ i. hole_record (child g 0 i) 0) (sym q.1)
-      | inr q ↦
-          let less : j < k = omega (arith, q.1) in
-          let other : length before - 1 - j ≢ length before - 1 - k = omega arith in
-          get_or-set_other after (length before - 1 - k) (length before - 1 - j) nd nowhere other ∙ so_far.hole j less
-    ];
-    others = λ n h.
-        let other : n ≢ length before - 1 - k = omega arith in
-        get_or-set_other after (length before - 1 - k) n nd nowhere other ∙ so_far.others n (omega arith);
-  }
+-- the first of the highest numbers
+first_highest : (n k : ℕ) → k ≤ n → take k (highest n n) ≡ highest n k
+first_highest n zero h = refl
+first_highest zero (suc k) h = absurd (omega arith)
+first_highest (suc n) (suc k) h = ap (take (suc k)) (down n n) ∙ ap (λ xs. n ∷ xs) (first_highest n k (omega arith)) ∙ sym (down n k)
 
-  -- the same as the code has it: the language was asked for the children's symbols
-  pub holes_again : (text : ℕ → List Segment) → Limits g text → (k : ℕ) (after : List Node) (fields symbols : List ℕ) (nd : Node) → symbols ≡ g.children 0 → k < length symbols → length (g.children 0) < length before → HolesPut g k before after fields → nd ≡ hole_record (get_or symbols k 0) 0 → HolesPut g (k + 1) before (set after (length after - 1 - k) nd) (set fields k (length after - 1 - k))
-  holes_again text limits k after fields symbols nd asked inside room so_far e =
-      subst (λ (m : ℕ). HolesPut g (k + 1) before (set after (m - 1 - k) nd) (set fields k (m - 1 - k))) (sym so_far.many)
-      (holes_more k after fields nd so_far few (omega (arith, there)) (e ∙ ap (λ s. hole_record s 0) symbol))
-    where
-      there : k < length (g.children 0)
-      there = subst (λ (xs : List ℕ). k < length xs) asked inside
+highest_length : (n k : ℕ) → length (highest n k) ≡ k
+highest_length n zero = refl
+highest_length n (suc k) = omega (arith, highest_length (n - 1) k)
 
-      few : k < 3
-      few = omega (arith, there, (limits.each 0 limits.start.0).few_children)
+-- the k-th of the highest numbers, as a child field
+highest_at : (n count k : ℕ) → count ≤ 3 → k < count → get_or (three (highest n count)) k 0 ≡ n - 1 - k
+highest_at n zero k few h = absurd (omega arith)
+highest_at n (suc zero) zero few h = omega arith
+highest_at n (suc zero) (suc k) few h = absurd (omega arith)
+highest_at n (suc (suc zero)) zero few h = omega arith
+highest_at n (suc (suc zero)) (suc zero) few h = omega arith
+highest_at n (suc (suc zero)) (suc (suc k)) few h = absurd (omega arith)
+highest_at n (suc (suc (suc zero))) zero few h = omega arith
+highest_at n (suc (suc (suc zero))) (suc zero) few h = omega arith
+highest_at n (suc (suc (suc zero))) (suc (suc zero)) few h = omega arith
+highest_at n (suc (suc (suc zero))) (suc (suc (suc k))) few h = absurd (omega arith)
+highest_at n (suc (suc (suc (suc count)))) k few h = absurd (omega arith)
 
-      symbol : get_or symbols k 0 ≡ child g 0 k
-      symbol = ap (λ xs. get_or xs k 0) asked ∙ get_or_default (g.children 0) k 0 g.symbols there
+module _ (before : List Node) (free : FreeTo (length before) before) (count : ℕ) (few : count ≤ 3) (room : count < length before) where
+  -- there are enough
+  pub enough_free : count ≤ length (free_numbers before)
+  enough_free = rw (all_free before (length before) free (length before) (omega arith), highest_length) (omega arith)
 
-  -- node 0 is put down over the holes, in a table of free nodes
-  pub made_of : (after : List Node) (fields : List ℕ) → FreeTo (length before) before → length (g.children 0) < length before → HolesPut g (length (g.children 0)) before after fields → Made g (length before) (set after 0 (record { used = true; production = 0; literal = pos 0; parent = none; children = fields }))
-  made_of after fields free room put = record {
-    many = length-set after 0 start ∙ put.many;
-    start_is = get_or-set_same after 0 start nowhere (omega (arith, put.many)) ∙ ap (λ xs. record { used = true; production = 0; literal = pos 0; parent = none; children = xs }) put.children;
-    hole = λ k h. other (length before - 1 - k) (omega arith) ∙ put.hole k h;
-    free = λ n h i. other n h ∙ put.others n i ∙ free n (omega arith);
-  }
-    where
-      start : Node
-      start = record { used = true; production = 0; literal = pos 0; parent = none; children = fields }
+  module _ (fields : List ℕ) (new : NewNodes before count fields) where
+    pub fields_are : fields ≡ three (highest (length before) count)
+    fields_are =
+        new.named
+        ∙ ap (λ xs. three (take count xs)) (all_free before (length before) free (length before) (omega arith))
+        ∙ ap three (first_highest (length before) count (omega arith))
 
-      other : (n : ℕ) → 0 < n → at (set after 0 start) n ≡ at after n
-      other n h = let apart : n ≢ 0 = omega arith in get_or-set_other after 0 n start nowhere apart
+    field_at : (k : ℕ) → k < count → get_or fields k 0 ≡ length before - 1 - k
+    field_at k h = ap (λ xs. get_or xs k 0) fields_are ∙ highest_at (length before) count k few h
+
+    pub holes_apart : Apart (length before) count fields
+    holes_apart = record {
+      inside = λ k h. rw (field_at k h) (omega arith);
+      different = λ j k l h. rw (field_at k h, field_at j (omega arith)) (omega arith);
+    }
+
+    -- node 0 is put down over the holes
+    pub made_of : (g : Grammar) (symbols : List ℕ) → symbols ≡ g.children 0 → count ≡ length symbols → (after : List Node) → Planted symbols 0 fields (length symbols) before after
+        → Made g (length before) (set after 0 (record { used = true; production = 0; literal = pos 0; parent = none; children = fields }))
+    made_of g symbols asked long after planted = record {
+      many = length-set after 0 start ∙ planted.many;
+      start_is =
+          get_or-set_same after 0 start nowhere (omega (arith, planted.many))
+          ∙ ap (λ xs. record { used = true; production = 0; literal = pos 0; parent = none; children = xs }) (fields_are ∙ ap (λ n. three (highest (length before) n)) counted);
+      hole = λ k h.
+          let inside : k < count = omega (arith, counted, h) in
+          other (length before - 1 - k) (omega arith) ∙ ap (at after) (sym (field_at k inside)) ∙ planted.hole k (omega arith)
+          ∙ ap (λ s. hole_record s 0) (ap (λ xs. get_or xs k 0) asked ∙ get_or_default (g.children 0) k 0 g.symbols h);
+      free = λ n h i. other n h ∙ planted.same n (λ k l e. let f = field_at k (omega arith) in omega (arith, e, f, counted)) ∙ free n (omega arith);
+    }
+      where
+        start : Node
+        start = record { used = true; production = 0; literal = pos 0; parent = none; children = fields }
+
+        counted : count ≡ length (g.children 0)
+        counted = long ∙ ap length asked
+
+        other : (n : ℕ) → 0 < n → at (set after 0 start) n ≡ at after n
+        other n h = let apart : n ≢ 0 = omega arith in get_or-set_other after 0 n start nowhere apart

@@ -6,6 +6,7 @@ pub mod Hanging
 pub mod Gathering
 pub mod Starting
 pub mod Touching
+pub mod Opening
 pub mod Faults
 pub mod Checks
 pub mod Calls

@@ -16,6 +16,11 @@ pub record Blanked {R M : Type 0} (meaning : R → M) (nothing : M) (nodes : Lis
   pub blank : (n a : ℕ) (d : R) → In n nodes → a < 4 → 4 * n + a < length before → meaning (slice_index_or after (4 * n + a) d) ≡ nothing
   pub same : (f : ℕ) (d : R) → (In (f / 4) nodes → ⊥) → slice_index_or after f d ≡ slice_index_or before f d
 
+-- Every value is a row.
+pub record AllStored {R : Type 0} (row : R) (before after : List R) : Type 0 where
+  pub many : length after ≡ length before
+  pub there : (f : ℕ) (d : R) → f < length before → slice_index_or after f d ≡ row
+
 -- The first values, some count of them, are blank, and every further value is the same row as before.
 pub record BlankedFirst {R M : Type 0} (meaning : R → M) (nothing : M) (count : ℕ) (before after : List R) : Type 0 where
   pub many : length after ≡ length before

@@ -8,34 +8,29 @@ ghost use Rattle.edit.specs.Fresh.{NewNodes};
 use crate::fault::EditFault;
 use crate::fresh::new_nodes;
 use grammar::Language;
-use table::{Node, begin, check_on_sheet, is_hole};
+use table::{View, is_hole};
 
 // What every edit at a node checks first.
-pub(crate) fn check_at_node<L: Language>(
-    language: &L,
-    nodes: &[Node],
-    values: usize,
-    n: u16,
-) -> Result<(), EditFault>
-    ensures { Answer (at_a_node (L.grammar language.now) nodes.now values n) result }
+pub(crate) fn check_at_node<L: Language>(view: View<'_, L>, n: u16) -> Result<(), EditFault>
+    ensures { Answer (at_a_node (L.grammar view.entry.language.now) view.entry.nodes.now view.entry.values n) result }
 {
-    begin(language, nodes, values)?;
-    check_on_sheet(nodes, n)?;
+    view.begin()?.check_on_sheet(n)?;
     Ok(())
 }
 
 // What retype checks.
 pub(crate) fn check_retype<L: Language>(
-    language: &L,
-    nodes: &[Node],
-    values: usize,
+    view: View<'_, L>,
     n: u16,
     literal: i32,
 ) -> Result<(), EditFault>
-    ensures { Answer (retype_checks (L.grammar language.now) nodes.now values n literal) result }
+    ensures { Answer (retype_checks (L.grammar view.entry.language.now) view.entry.nodes.now view.entry.values n literal) result }
 {
-    check_at_node(language, nodes, values, n)?;
-    if !language.accepts(nodes[n as usize].production, literal) {
+    check_at_node(view, n)?;
+    if !view
+        .language
+        .accepts(view.nodes[n as usize].production, literal)
+    {
         return Err(EditFault::LiteralRefused(n));
     }
     Ok(())
@@ -45,28 +40,23 @@ pub(crate) fn check_retype<L: Language>(
 fn is_fitting<L: Language>(language: &L, other: u8, production: u8) -> bool
     ensures { MatchBool result (Fitting (L.grammar language.now) other production) (Fitting (L.grammar language.now) other production → ⊥) }
 {
-    if production >= language.productions() {
-        return false;
-    }
-    if is_hole(language, production) {
-        return false;
-    }
-    language.symbol(production) == language.symbol(other)
+    production < language.productions()
+        && !is_hole(language, production)
+        && language.symbol(production) == language.symbol(other)
 }
 
 // What insert checks before it looks for free nodes.
 fn check_production<L: Language>(
-    language: &L,
-    nodes: &[Node],
-    values: usize,
+    view: View<'_, L>,
     n: u16,
     production: u8,
     literal: i32,
 ) -> Result<(), EditFault>
-    ensures { Answer (insert_checks_but_free (L.grammar language.now) nodes.now values n production literal) result }
+    ensures { Answer (insert_checks_but_free (L.grammar view.entry.language.now) view.entry.nodes.now view.entry.values n production literal) result }
 {
-    check_at_node(language, nodes, values, n)?;
-    let old = nodes[n as usize].production;
+    check_at_node(view, n)?;
+    let language = view.language;
+    let old = view.nodes[n as usize].production;
     if !is_hole(language, old) {
         return Err(EditFault::WrongPlace(n));
     }
@@ -81,18 +71,13 @@ fn check_production<L: Language>(
 
 // What insert checks; it answers the child fields for the new nodes.
 pub(crate) fn check_insert<L: Language>(
-    language: &L,
-    nodes: &[Node],
-    values: usize,
+    view: View<'_, L>,
     n: u16,
     production: u8,
     literal: i32,
 ) -> Result<[u16; 3], EditFault>
-    ensures { MatchResult result (λ fields. Met (insert_checks (L.grammar language.now) nodes.now values n production literal) × NewNodes nodes.now (length ((L.grammar language.now).children production)) fields) (First (insert_checks (L.grammar language.now) nodes.now values n production literal)) }
+    ensures { MatchResult result (λ fields. Met (insert_checks (L.grammar view.entry.language.now) view.entry.nodes.now view.entry.values n production literal) × NewNodes view.entry.nodes.now (length ((L.grammar view.entry.language.now).children production)) fields) (First (insert_checks (L.grammar view.entry.language.now) view.entry.nodes.now view.entry.values n production literal)) }
 {
-    check_production(language, nodes, values, n, production, literal)?;
-    match new_nodes(nodes, language.children(production).len()) {
-        Some(fields) => Ok(fields),
-        None => Err(EditFault::TooFewNodes(n)),
-    }
+    check_production(view, n, production, literal)?;
+    new_nodes(view.nodes, view.language.children(production).len()).ok_or(EditFault::TooFewNodes(n))
 }

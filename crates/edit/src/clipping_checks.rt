@@ -5,68 +5,49 @@ ghost use Rattle.edit.specs.Checks.{hole_at, no_hole_at, same_symbol, with_a_cli
 
 use crate::fault::EditFault;
 use grammar::Language;
-use table::{Node, begin, check_on_sheet, is_clipping_root, is_hole};
+use table::{View, is_clipping_root, is_hole};
 
 // What every edit with a clipping checks first.
-fn check_with_clipping<L: Language>(
-    language: &L,
-    nodes: &[Node],
-    values: usize,
-    root: u16,
-    n: u16,
-) -> Result<(), EditFault>
-    ensures { Answer (with_a_clipping (L.grammar language.now) nodes.now values root n) result }
+fn check_with_clipping<L: Language>(view: View<'_, L>, root: u16, n: u16) -> Result<(), EditFault>
+    ensures { Answer (with_a_clipping (L.grammar view.entry.language.now) view.entry.nodes.now view.entry.values root n) result }
 {
-    begin(language, nodes, values)?;
-    if !is_clipping_root(nodes, root) {
+    let table = view.begin()?;
+    if !is_clipping_root(view.nodes, root) {
         return Err(EditFault::NoClipping);
     }
-    check_on_sheet(nodes, n)?;
+    table.check_on_sheet(n)?;
     Ok(())
 }
 
 // Refuses a node that is a hole or node 0.
-pub(crate) fn check_no_hole<L: Language>(
-    language: &L,
-    nodes: &[Node],
-    n: u16,
-) -> Result<(), EditFault>
-    requires { n < length nodes.now }
-    ensures { Answer (no_hole_at (L.grammar language.now) nodes.now n ∷ []) result }
+pub(crate) fn check_no_hole<L: Language>(view: View<'_, L>, n: u16) -> Result<(), EditFault>
+    requires { n < length view.nodes.now }
+    ensures { Answer (no_hole_at (L.grammar view.entry.language.now) view.entry.nodes.now n ∷ []) result }
 {
-    if n == 0 {
-        return Err(EditFault::WrongPlace(n));
-    }
-    if is_hole(language, nodes[n as usize].production) {
+    if n == 0 || is_hole(view.language, view.nodes[n as usize].production) {
         return Err(EditFault::WrongPlace(n));
     }
     Ok(())
 }
 
 // Refuses a node that is no hole.
-fn check_hole<L: Language>(language: &L, nodes: &[Node], n: u16) -> Result<(), EditFault>
-    requires { n < length nodes.now }
-    ensures { Answer (hole_at (L.grammar language.now) nodes.now n ∷ []) result }
+fn check_hole<L: Language>(view: View<'_, L>, n: u16) -> Result<(), EditFault>
+    requires { n < length view.nodes.now }
+    ensures { Answer (hole_at (L.grammar view.entry.language.now) view.entry.nodes.now n ∷ []) result }
 {
-    if !is_hole(language, nodes[n as usize].production) {
+    if !is_hole(view.language, view.nodes[n as usize].production) {
         return Err(EditFault::WrongPlace(n));
     }
     Ok(())
 }
 
 // Refuses a clipping whose root is of another symbol than the node.
-fn check_symbol<L: Language>(
-    language: &L,
-    nodes: &[Node],
-    root: u16,
-    n: u16,
-) -> Result<(), EditFault>
-    requires { (root < length nodes.now) × (n < length nodes.now) }
-    ensures { Answer (same_symbol (L.grammar language.now) nodes.now root n ∷ []) result }
+fn check_symbol<L: Language>(view: View<'_, L>, root: u16, n: u16) -> Result<(), EditFault>
+    requires { (root < length view.nodes.now) × (n < length view.nodes.now) }
+    ensures { Answer (same_symbol (L.grammar view.entry.language.now) view.entry.nodes.now root n ∷ []) result }
 {
-    if language.symbol(nodes[root as usize].production)
-        != language.symbol(nodes[n as usize].production)
-    {
+    let symbol = |node: u16| view.language.symbol(view.nodes[node as usize].production);
+    if symbol(root) != symbol(n) {
         return Err(EditFault::WrongSymbol(n));
     }
     Ok(())
@@ -74,32 +55,26 @@ fn check_symbol<L: Language>(
 
 // What exchange checks.
 pub(crate) fn check_exchange<L: Language>(
-    language: &L,
-    nodes: &[Node],
-    values: usize,
+    view: View<'_, L>,
     root: u16,
     n: u16,
 ) -> Result<(), EditFault>
-    ensures { Answer (exchange_checks (L.grammar language.now) nodes.now values root n) result }
+    ensures { Answer (exchange_checks (L.grammar view.entry.language.now) view.entry.nodes.now view.entry.values root n) result }
 {
-    check_with_clipping(language, nodes, values, root, n)?;
-    check_no_hole(language, nodes, n)?;
-    check_symbol(language, nodes, root, n)?;
-    Ok(())
+    check_with_clipping(view, root, n)?;
+    check_no_hole(view, n)?;
+    check_symbol(view, root, n)
 }
 
 // What paste checks.
 pub(crate) fn check_paste<L: Language>(
-    language: &L,
-    nodes: &[Node],
-    values: usize,
+    view: View<'_, L>,
     root: u16,
     n: u16,
 ) -> Result<(), EditFault>
-    ensures { Answer (paste_checks (L.grammar language.now) nodes.now values root n) result }
+    ensures { Answer (paste_checks (L.grammar view.entry.language.now) view.entry.nodes.now view.entry.values root n) result }
 {
-    check_with_clipping(language, nodes, values, root, n)?;
-    check_hole(language, nodes, n)?;
-    check_symbol(language, nodes, root, n)?;
-    Ok(())
+    check_with_clipping(view, root, n)?;
+    check_hole(view, n)?;
+    check_symbol(view, root, n)
 }

@@ -9,26 +9,19 @@ use crate::checks::check_at_node;
 use crate::clipping_checks::check_no_hole;
 use crate::fault::EditFault;
 use crate::fresh::next_free;
-use crate::hang::{hang, put_hole};
+use crate::hang::hang;
+use crate::records::hole_node;
 use crate::rows::blank_node;
 use grammar::{Figure, Language};
-use table::Node;
+use table::{NONE, Node, View};
 
 // What cut checks; it answers the number for the new hole.
-fn check_cut<L: Language>(
-    language: &L,
-    nodes: &[Node],
-    values: usize,
-    n: u16,
-) -> Result<u16, EditFault>
-    ensures { MatchResult result (λ hole. Met (cut_checks (L.grammar language.now) nodes.now values n) × NextFree nodes.now (length nodes.now) hole) (First (cut_checks (L.grammar language.now) nodes.now values n)) }
+fn check_cut<L: Language>(view: View<'_, L>, n: u16) -> Result<u16, EditFault>
+    ensures { MatchResult result (λ hole. Met (cut_checks (L.grammar view.entry.language.now) view.entry.nodes.now view.entry.values n) × NextFree view.entry.nodes.now (length view.entry.nodes.now) hole) (First (cut_checks (L.grammar view.entry.language.now) view.entry.nodes.now view.entry.values n)) }
 {
-    check_at_node(language, nodes, values, n)?;
-    check_no_hole(language, nodes, n)?;
-    match next_free(nodes, nodes.len() as u16) {
-        Some(hole) => Ok(hole),
-        None => Err(EditFault::TooFewNodes(n)),
-    }
+    check_at_node(view, n)?;
+    check_no_hole(view, n)?;
+    next_free(view.nodes, view.nodes.len() as u16).ok_or(EditFault::TooFewNodes(n))
 }
 
 // Cuts the subtree at a node out; answers the number of the hole in its place.
@@ -40,9 +33,16 @@ pub fn cut<L: Language>(
 ) -> Result<u16, EditFault>
     ensures { CutCall (L.grammar language.now) (λ row. L.Value.Figure.means (L.Value.Figure.reads row)) L.Value.Figure.nothing nodes.old values.old nodes.new values.new node result }
 {
-    let hole = check_cut(language, nodes, values.len(), node)?;
+    let hole = check_cut(
+        View {
+            language,
+            nodes,
+            values: values.len(),
+        },
+        node,
+    )?;
     let symbol = language.symbol(nodes[node as usize].production);
-    put_hole(nodes, hole, symbol);
+    nodes[hole as usize] = hole_node(symbol, NONE);
     hang(nodes, hole, node);
     blank_node::<L>(values, hole);
     Ok(hole)

@@ -5,7 +5,7 @@ use crate::clipping_checks::check_exchange;
 use crate::fault::EditFault;
 use crate::hang::hang;
 use grammar::{Figure, Language};
-use table::Node;
+use table::{Node, View};
 
 pub fn exchange<L: Language>(
     language: &L,
@@ -16,7 +16,15 @@ pub fn exchange<L: Language>(
 ) -> Result<(), EditFault>
     ensures { ExchangeCall (L.grammar language.now) (λ row. L.Value.Figure.means (L.Value.Figure.reads row)) L.Value.Figure.nothing nodes.old values.old nodes.new values.new root node result }
 {
-    check_exchange(language, nodes, values.len(), root, node)?;
+    check_exchange(
+        View {
+            language,
+            nodes,
+            values: values.len(),
+        },
+        root,
+        node,
+    )?;
     hang(nodes, root, node);
     Ok(())
 }

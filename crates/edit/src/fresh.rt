@@ -4,7 +4,8 @@ ghost use Rattle.edit.specs.Fresh.{free_below, free_numbers, new_nodes, three, N
 
 use table::{NONE, Node};
 
-// The highest free node below a number, if any is free there.
+// The highest free node below a number, if any is free there. By `rposition` or by `find` over the numbers it got no proof: what they say of
+// the items that they passed over, from the back, did not come out as numbers of nodes.
 pub(crate) fn next_free(nodes: &[Node], below: u16) -> Option<u16>
     requires { below ≤ length nodes.now }
     ensures { MatchOption result (free_below nodes.now below ≡ []) (NextFree nodes.now below) }
@@ -22,18 +23,11 @@ pub(crate) fn new_nodes(nodes: &[Node], count: usize) -> Option<[u16; 3]>
     requires { (length nodes.now ≤ 1000) × (count ≤ 3) }
     ensures { MatchOption result (length (free_numbers nodes.now) < count) (NewNodes nodes.now count) }
 {
-    let mut children = [NONE, NONE, NONE];
+    let mut children = [NONE; 3];
     let mut below = nodes.len() as u16;
-    for k in 0..count {
-        match next_free(nodes, below) {
-            Some(n) => {
-                children[k] = n;
-                below = n;
-            }
-            None => {
-                return None;
-            }
-        }
+    for child in &mut children[..count] {
+        below = next_free(nodes, below)?;
+        *child = below;
     }
     Some(children)
 }

@@ -1,17 +1,17 @@
 // Insert: a hole becomes a production with a literal, over new holes.
-ghost use Rattle.std.specs.Prelude.{◌≡◌, ◌<◌, ◌≤◌, length, take, slice_set};
+ghost use Rattle.std.specs.Prelude.{◌≡◌, ◌<◌, length, slice_set};
 ghost use Rattle.table.specs.Nodes.{at as record_at};
 ghost use Rattle.edit.specs.Memory.{Blanked};
-ghost use Rattle.edit.specs.Fresh.{hole_record, with_production};
-ghost use Rattle.edit.specs.Planting.{Apart, Planted, Roomy};
+ghost use Rattle.edit.specs.Fresh.{with_production};
+ghost use Rattle.edit.specs.Planting.{Roomy};
 ghost use Rattle.edit.specs.Calls.{InsertCall};
 
 use crate::checks::check_insert;
 use crate::fault::EditFault;
-use crate::records::hole_node;
+use crate::records::put_holes;
 use crate::rows::blank_node;
 use grammar::Language;
-use table::{NONE, Node};
+use table::{Node, View};
 
 // Gives a node another production, literal and children.
 fn set_production(nodes: &mut [Node], n: u16, production: u8, literal: i32, children: [u16; 3])
@@ -26,31 +26,13 @@ fn set_production(nodes: &mut [Node], n: u16, production: u8, literal: i32, chil
     };
 }
 
-// Puts a hole down.
-fn put_hole(nodes: &mut [Node], n: u16, symbol: u8, parent: u16)
-    requires { n < length nodes.old }
-    ensures { nodes.new ≡ slice_set nodes.old n (hole_record symbol parent) }
+// Makes the values of some nodes blank.
+fn blank_nodes<L: Language>(values: &mut [L::Row], nodes: &[u16])
+    requires { Roomy (length values.old) (length nodes.now) nodes.now }
+    ensures { Blanked (λ row. L.Value.Figure.means (L.Value.Figure.reads row)) L.Value.Figure.nothing nodes.now values.old values.new }
 {
-    nodes[n as usize] = hole_node(symbol, parent);
-}
-
-// Puts holes of some symbols down under a parent.
-fn put_holes(nodes: &mut [Node], symbols: &[u8], parent: u16, at: [u16; 3])
-    requires { (length symbols.now ≤ 3) × (Apart (length nodes.old) (length symbols.now) «at») }
-    ensures { Planted symbols.now parent «at» (length symbols.now) nodes.old nodes.new }
-{
-    for k in 0..symbols.len() {
-        put_hole(nodes, at[k], symbols[k], parent);
-    }
-}
-
-// Makes the values of the first nodes of a list blank.
-fn blank_nodes<L: Language>(values: &mut [L::Row], at: [u16; 3], count: usize)
-    requires { (count ≤ 3) × (Roomy (length values.old) count «at») }
-    ensures { Blanked (λ row. L.Value.Figure.means (L.Value.Figure.reads row)) L.Value.Figure.nothing (take count «at») values.old values.new }
-{
-    for k in 0..count {
-        blank_node::<L>(values, at[k]);
+    for n in nodes {
+        blank_node::<L>(values, *n);
     }
 }
 
@@ -65,10 +47,19 @@ pub fn insert<L: Language>(
 ) -> Result<(), EditFault>
     ensures { InsertCall (L.grammar language.now) (λ row. L.Value.Figure.means (L.Value.Figure.reads row)) L.Value.Figure.nothing nodes.old values.old nodes.new values.new n production literal result }
 {
-    let at = check_insert(language, nodes, values.len(), n, production, literal)?;
+    let at = check_insert(
+        View {
+            language,
+            nodes,
+            values: values.len(),
+        },
+        n,
+        production,
+        literal,
+    )?;
     let symbols = language.children(production);
     set_production(nodes, n, production, literal, at);
-    put_holes(nodes, symbols, n, at);
-    blank_nodes::<L>(values, at, symbols.len());
+    put_holes(nodes, symbols, n, &at);
+    blank_nodes::<L>(values, &at[..symbols.len()]);
     Ok(())
 }

@@ -3,9 +3,9 @@ ghost use Rattle.edit.specs.Calls.{PasteCall};
 
 use crate::clipping_checks::check_paste;
 use crate::fault::EditFault;
-use crate::hang::{free_node, hang};
+use crate::hang::hang;
 use grammar::{Figure, Language};
-use table::Node;
+use table::{Node, View};
 
 pub fn paste<L: Language>(
     language: &L,
@@ -16,8 +16,16 @@ pub fn paste<L: Language>(
 ) -> Result<(), EditFault>
     ensures { PasteCall (L.grammar language.now) (λ row. L.Value.Figure.means (L.Value.Figure.reads row)) L.Value.Figure.nothing nodes.old values.old nodes.new values.new root node result }
 {
-    check_paste(language, nodes, values.len(), root, node)?;
+    check_paste(
+        View {
+            language,
+            nodes,
+            values: values.len(),
+        },
+        root,
+        node,
+    )?;
     hang(nodes, root, node);
-    free_node(nodes, node);
+    nodes[node as usize] = Node::FREE;
     Ok(())
 }

@@ -1,21 +1,9 @@
-// The records of free nodes and of holes.
-ghost use Rattle.std.specs.Prelude.{◌≡◌};
-ghost use Rattle.edit.specs.Fresh.{free_record, hole_record};
+// The record of a hole, and holes put down.
+ghost use Rattle.std.specs.Prelude.{◌≡◌, ◌≤◌, length};
+ghost use Rattle.edit.specs.Fresh.{hole_record};
+ghost use Rattle.edit.specs.Planting.{Apart, Planted};
 
-use table::{NONE, Node};
-
-// The record of a free node.
-pub(crate) fn free_node() -> Node
-    ensures { result ≡ free_record }
-{
-    Node {
-        used: false,
-        production: 0,
-        literal: 0,
-        parent: NONE,
-        children: [NONE, NONE, NONE],
-    }
-}
+use table::Node;
 
 // The record of a hole of a symbol under a parent.
 pub(crate) fn hole_node(symbol: u8, parent: u16) -> Node
@@ -24,8 +12,17 @@ pub(crate) fn hole_node(symbol: u8, parent: u16) -> Node
     Node {
         used: true,
         production: symbol,
-        literal: 0,
         parent,
-        children: [NONE, NONE, NONE],
+        ..Node::FREE
+    }
+}
+
+// Puts holes of some symbols down under a parent, at the first of some nodes.
+pub(crate) fn put_holes(nodes: &mut [Node], symbols: &[u8], parent: u16, at: &[u16])
+    requires { (length symbols.now ≤ length at.now) × (Apart (length nodes.old) (length symbols.now) at.now) }
+    ensures { Planted symbols.now parent at.now (length symbols.now) nodes.old nodes.new }
+{
+    for (symbol, n) in symbols.iter().zip(at) {
+        nodes[*n as usize] = hole_node(*symbol, parent);
     }
 }

@@ -7,7 +7,7 @@ ghost use Rattle.edit.specs.Calls.{RetypeCall};
 use crate::checks::check_retype;
 use crate::fault::EditFault;
 use grammar::Language;
-use table::Node;
+use table::{Node, View};
 
 // Gives a node another literal.
 fn set_literal(nodes: &mut [Node], n: u16, literal: i32)
@@ -27,7 +27,15 @@ pub fn retype<L: Language>(
 ) -> Result<(), EditFault>
     ensures { RetypeCall (L.grammar language.now) (λ row. L.Value.Figure.means (L.Value.Figure.reads row)) L.Value.Figure.nothing nodes.old values.old nodes.new values.new n literal result }
 {
-    check_retype(language, nodes, values.len(), n, literal)?;
+    check_retype(
+        View {
+            language,
+            nodes,
+            values: values.len(),
+        },
+        n,
+        literal,
+    )?;
     set_literal(nodes, n, literal);
     Ok(())
 }

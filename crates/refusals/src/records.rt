@@ -2,7 +2,7 @@
 use std::alloc::{AllocError, Global};
 use table::{NONE, Node};
 
-// A record to be laid: a node, its production, literal, parent and children.
+// A record to be laid: a node, its production, literal, parent and children. Two cases and no flag, so that each record of the tables below is one line.
 #[derive(Clone, Copy)]
 pub enum Laid {
     Used(usize, u8, i32, u16, [u16; 3]),
@@ -43,36 +43,33 @@ pub const SUM: [Laid; 4] = [
 
 // The record of one node, and the node's number.
 fn node_of(laid: Laid) -> (usize, Node) {
-    let (n, used, production, literal, parent, children) = match laid {
-        Laid::Used(n, production, literal, parent, children) => {
-            (n, true, production, literal, parent, children)
+    let used = matches!(laid, Laid::Used(..));
+    match laid {
+        Laid::Used(n, production, literal, parent, children)
+        | Laid::Free(n, production, literal, parent, children) => {
+            let node = Node {
+                used,
+                production,
+                literal,
+                parent,
+                children,
+            };
+            (n, node)
         }
-        Laid::Free(n, production, literal, parent, children) => {
-            (n, false, production, literal, parent, children)
-        }
-    };
-    let node = Node {
-        used,
-        production,
-        literal,
-        parent,
-        children,
-    };
-    (n, node)
+    }
 }
 
 // Lays records in a table, those for which it has nodes.
 pub fn lay(nodes: &mut [Node], records: &[Laid]) {
     for laid in records {
         let (n, node) = node_of(*laid);
-        if n < nodes.len() {
-            nodes[n] = node;
+        if let Some(place) = nodes.get_mut(n) {
+            *place = node;
         }
     }
 }
 
 // A table of free nodes.
 pub fn blank(heap: Global, count: usize) -> Result<Vec<Node>, AllocError> {
-    let (_, free) = node_of(Laid::Free(0, 0, 0, NONE, LEAF));
-    vec![in heap; free; count]
+    vec![in heap; Node::FREE; count]
 }

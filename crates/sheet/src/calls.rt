@@ -15,15 +15,13 @@ pub fn make<L: Language>(
 ) -> Result<Made, EditFault>
     ensures { MakeHandled (L.grammar language.now) (λ row. L.Value.Figure.means (L.Value.Figure.reads row)) L.Value.Figure.nothing nodes.old values.old nodes.new values.new result }
 {
-    match edit::make(language, nodes, values) {
-        Ok(()) => Ok(Made {
-            sheet: Open {
-                call: OpenedBy::Make,
-                node: 0,
-            },
-        }),
-        Err(fault) => Err(fault),
-    }
+    edit::make(language, nodes, values)?;
+    Ok(Made {
+        sheet: Open {
+            call: OpenedBy::Make,
+            node: 0,
+        },
+    })
 }
 
 // Turns a hole on the sheet into a production of its symbol with a literal; its children are new holes.
@@ -38,15 +36,14 @@ pub fn insert<L: Language>(
 ) -> Result<Inserted, Refused>
     ensures { InsertHandled (L.grammar language.now) (λ row. L.Value.Figure.means (L.Value.Figure.reads row)) L.Value.Figure.nothing nodes.old values.old nodes.new values.new node production literal result }
 {
-    match edit::insert(language, nodes, values, node, production, literal) {
-        Ok(()) => Ok(Inserted {
-            sheet: Open {
-                call: OpenedBy::Insert,
-                node,
-            },
-        }),
-        Err(fault) => Err(Refused { sheet, fault }),
-    }
+    edit::insert(language, nodes, values, node, production, literal)
+        .map_err(|fault| Refused { sheet, fault })?;
+    Ok(Inserted {
+        sheet: Open {
+            call: OpenedBy::Insert,
+            node,
+        },
+    })
 }
 
 // Gives a node on the sheet another literal, which its production must accept.
@@ -60,13 +57,12 @@ pub fn retype<L: Language>(
 ) -> Result<Retyped, Refused>
     ensures { RetypeHandled (L.grammar language.now) (λ row. L.Value.Figure.means (L.Value.Figure.reads row)) L.Value.Figure.nothing nodes.old values.old nodes.new values.new node literal result }
 {
-    match edit::retype(language, nodes, values, node, literal) {
-        Ok(()) => Ok(Retyped {
-            sheet: Open {
-                call: OpenedBy::Retype,
-                node,
-            },
-        }),
-        Err(fault) => Err(Refused { sheet, fault }),
-    }
+    edit::retype(language, nodes, values, node, literal)
+        .map_err(|fault| Refused { sheet, fault })?;
+    Ok(Retyped {
+        sheet: Open {
+            call: OpenedBy::Retype,
+            node,
+        },
+    })
 }

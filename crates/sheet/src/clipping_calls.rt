@@ -17,16 +17,15 @@ pub fn cut<L: Language>(
 ) -> Result<CutOut, Refused>
     ensures { CutHandled (L.grammar language.now) (λ row. L.Value.Figure.means (L.Value.Figure.reads row)) L.Value.Figure.nothing nodes.old values.old nodes.new values.new node result }
 {
-    match edit::cut(language, nodes, values, node) {
-        Ok(hole) => Ok(CutOut {
-            sheet: Open {
-                call: OpenedBy::Cut,
-                node: hole,
-            },
-            clipping: Clipping { root: node },
-        }),
-        Err(fault) => Err(Refused { sheet, fault }),
-    }
+    let hole = edit::cut(language, nodes, values, node)
+        .map_err(|fault| Refused { sheet, fault })?;
+    Ok(CutOut {
+        sheet: Open {
+            call: OpenedBy::Cut,
+            node: hole,
+        },
+        clipping: Clipping { root: node },
+    })
 }
 
 // Hangs a clipping in the place of a hole, whose node becomes free.
@@ -101,8 +100,6 @@ pub fn discard<L: Language>(
     ensures { DiscardHandled (L.grammar language.now) (λ row. L.Value.Figure.means (L.Value.Figure.reads row)) L.Value.Figure.nothing nodes.old values.now nodes.new values.now clipping waiting.old waiting.new result }
 {
     let Clipping { root } = clipping;
-    match edit::discard(language, nodes, values, root, waiting) {
-        Ok(()) => Ok(Discarded {}),
-        Err(fault) => Err(fault),
-    }
+    edit::discard(language, nodes, values, root, waiting)?;
+    Ok(Discarded {})
 }

@@ -20,13 +20,6 @@ pub enum Call {
     Discard(u16, u16),
 }
 
-// What an accepted call answers: cut the new hole's number.
-#[derive(Clone, Copy)]
-pub enum Done {
-    Plain,
-    Hole(u16),
-}
-
 impl Call {
     // How many entries the waiting list has that the call is lent.
     pub fn waiting(self) -> usize {
@@ -36,73 +29,42 @@ impl Call {
         }
     }
 
-    fn name(self) -> &'static str {
-        match self {
-            Call::Make => "make",
-            Call::Insert(_, _, _) => "insert",
-            Call::Cut(_) => "cut",
-            Call::Paste(_, _) => "paste",
-            Call::Exchange(_, _) => "exchange",
-            Call::Retype(_, _) => "retype",
-            Call::Discard(_, _) => "discard",
-        }
-    }
-
-    // The numbers that the call gets, and how many they are.
-    fn numbers(self) -> ([i64; 3], usize) {
-        match self {
-            Call::Make => ([0, 0, 0], 0),
-            Call::Insert(node, production, literal) => (
-                [node as i64, production as i64, literal as i64],
-                3,
-            ),
-            Call::Cut(node) => ([node as i64, 0, 0], 1),
-            Call::Paste(root, node) => ([root as i64, node as i64, 0], 2),
-            Call::Exchange(root, node) => ([root as i64, node as i64, 0], 2),
-            Call::Retype(node, literal) => ([node as i64, literal as i64, 0], 2),
-            Call::Discard(root, entries) => ([root as i64, entries as i64, 0], 2),
-        }
-    }
-
-    // Makes the call.
+    // Makes the call. An accepted cut answers the number of the new hole, every other call nothing.
     pub fn perform<L: Language>(
         self,
         language: &L,
         nodes: &mut [Node],
         values: &mut [L::Row],
         waiting: &mut [u16],
-    ) -> Result<Done, EditFault> {
+    ) -> Result<Option<u16>, EditFault> {
         match self {
-            Call::Make => plain(make(language, nodes, values)),
-            Call::Insert(node, production, literal) => plain(insert(
-                language, nodes, values, node, production, literal,
-            )),
-            Call::Cut(node) => with_hole(cut(language, nodes, values, node)),
-            Call::Paste(root, node) => plain(paste(language, nodes, values, root, node)),
-            Call::Exchange(root, node) => plain(exchange(language, nodes, values, root, node)),
-            Call::Retype(node, literal) => plain(retype(language, nodes, values, node, literal)),
-            Call::Discard(root, _) => plain(discard(language, nodes, values, root, waiting)),
+            Call::Make => make(language, nodes, values)?,
+            Call::Insert(node, production, literal) => {
+                insert(language, nodes, values, node, production, literal)?
+            }
+            Call::Cut(node) => return Ok(Some(cut(language, nodes, values, node)?)),
+            Call::Paste(root, node) => paste(language, nodes, values, root, node)?,
+            Call::Exchange(root, node) => exchange(language, nodes, values, root, node)?,
+            Call::Retype(node, literal) => retype(language, nodes, values, node, literal)?,
+            Call::Discard(root, _) => discard(language, nodes, values, root, waiting)?,
         }
+        Ok(None)
     }
-}
-
-fn plain(answer: Result<(), EditFault>) -> Result<Done, EditFault> {
-    answer?;
-    Ok(Done::Plain)
-}
-
-fn with_hole(answer: Result<u16, EditFault>) -> Result<Done, EditFault> {
-    Ok(Done::Hole(answer?))
 }
 
 // The call's name, and behind it its numbers.
 impl fmt::Display for Call {
     fn fmt<W: fmt::Write>(&self, f: &mut fmt::Formatter<W>) -> fmt::Result {
-        f.write_str(self.name())?;
-        let (numbers, count) = self.numbers();
-        for number in numbers.iter().take(count) {
-            write!(f, " {number}")?;
+        match self {
+            Call::Make => write!(f, "make"),
+            Call::Insert(node, production, literal) => {
+                write!(f, "insert {node} {production} {literal}")
+            }
+            Call::Cut(node) => write!(f, "cut {node}"),
+            Call::Paste(root, node) => write!(f, "paste {root} {node}"),
+            Call::Exchange(root, node) => write!(f, "exchange {root} {node}"),
+            Call::Retype(node, literal) => write!(f, "retype {node} {literal}"),
+            Call::Discard(root, entries) => write!(f, "discard {root} {entries}"),
         }
-        Ok(())
     }
 }

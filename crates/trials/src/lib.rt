@@ -4,5 +4,5 @@
 pub mod call;
 pub mod trial;
 
-pub use call::{Call, Done};
+pub use call::Call;
 pub use trial::{Lent, Outcome, tried};

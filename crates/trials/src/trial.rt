@@ -1,8 +1,10 @@
 // One trial: a call on a copy of what is lent, and what differs after it.
-use crate::call::{Call, Done};
+use crate::call::Call;
+use circularity::fault::Fault;
 use edit::EditFault;
 use grammar::{Figure, Language};
 use std::alloc::{AllocError, Global};
+use std::fmt;
 use table::Node;
 
 // what stands in each entry of a waiting list before a call
@@ -20,10 +22,25 @@ pub struct Lent<'a, R> {
 // entries count that the call may not write.
 #[derive(Clone, Copy)]
 pub struct Outcome {
-    pub answer: Result<Done, EditFault>,
+    pub answer: Result<Option<u16>, EditFault>,
     pub records: usize,
     pub values: usize,
     pub entries: usize,
+}
+
+// The answer, and how much differs.
+impl fmt::Display for Outcome {
+    fn fmt<W: fmt::Write>(&self, f: &mut fmt::Formatter<W>) -> fmt::Result {
+        match self.answer {
+            Ok(None) => write!(f, "accepted")?,
+            Ok(Some(node)) => write!(f, "accepted, hole {node}")?,
+            Err(fault) => write!(f, "{}", fault.refusal())?,
+        }
+        let records = self.records;
+        let values = self.values;
+        let entries = self.entries;
+        write!(f, "; {records} records, {values} values, {entries} entries")
+    }
 }
 
 // Values that all hold one row.
@@ -42,39 +59,32 @@ fn unwritten(heap: Global, entries: usize) -> Result<Vec<u16>, AllocError> {
 
 // How many records differ.
 fn changed_records(before: &[Node], after: &[Node]) -> usize {
-    let mut count: usize = 0;
-    for n in 0..before.len() {
-        if n < after.len() && before[n] != after[n] {
-            count = count.saturating_add(1);
-        }
-    }
-    count
+    before
+        .iter()
+        .zip(after)
+        .filter(|(was, is)| was != is)
+        .count()
 }
 
 // How many values mean something else than the row that each held before the call.
 fn changed_values<L: Language>(values: &[L::Row], row: L::Row) -> usize {
-    let mut count: usize = 0;
-    for value in values {
-        if !L::Value::load(*value).same(L::Value::load(row)) {
-            count = count.saturating_add(1);
-        }
-    }
-    count
+    values
+        .iter()
+        .filter(|value| !L::Value::load(**value).same(L::Value::load(row)))
+        .count()
 }
 
 // How many entries of a waiting list were written, from one entry on.
 fn written(waiting: &[u16], from: usize) -> usize {
-    let mut count: usize = 0;
-    for entry in waiting.iter().skip(from) {
-        if *entry != UNWRITTEN {
-            count = count.saturating_add(1);
-        }
-    }
-    count
+    waiting
+        .iter()
+        .skip(from)
+        .filter(|entry| **entry != UNWRITTEN)
+        .count()
 }
 
 // How many entries of the waiting list a call may have written: an accepted one as many as there are nodes.
-fn writable(answer: Result<Done, EditFault>, nodes: usize) -> usize {
+fn writable(answer: Result<Option<u16>, EditFault>, nodes: usize) -> usize {
     match answer {
         Ok(_) => nodes,
         Err(_) => 0,

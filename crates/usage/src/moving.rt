@@ -3,29 +3,16 @@ use formula::{Formula, QuantityRow};
 use sheet::{Clipping, CutOut, Open, RefusedWithClipping, Settled, cut, discard, paste};
 use table::Node;
 
-// A sheet after a cut: open, with the clipping; or settled as before.
-pub enum AfterCut {
-    Taken(Open, Clipping),
-    Kept(Settled),
-}
-
-// A sheet after a clipping has been spent on it.
-#[derive(Drop)]
-pub enum Spent {
-    Hung(Open),
-    Freed(Settled),
-}
-
-// Takes a subtree off the sheet.
+// Takes a subtree off the sheet: the sheet is open, with the clipping, or else settled as before.
 pub fn take_off(
     nodes: &mut [Node],
     values: &mut [QuantityRow],
     sheet: Settled,
     node: u16,
-) -> AfterCut {
+) -> Result<(Open, Clipping), Settled> {
     match cut(&Formula, nodes, values, sheet, node) {
-        Ok(CutOut { sheet, clipping }) => AfterCut::Taken(sheet, clipping),
-        Err(refused) => AfterCut::Kept(refused.sheet),
+        Ok(CutOut { sheet, clipping }) => Ok((sheet, clipping)),
+        Err(refused) => Err(refused.sheet),
     }
 }
 
@@ -45,7 +32,7 @@ fn give_up(
     sheet
 }
 
-// Hangs a clipping in the place of a hole. Where that is refused, its nodes are freed.
+// Hangs a clipping in the place of a hole. Where that is refused, its nodes are freed, and the sheet is settled.
 pub fn hang_or_free(
     nodes: &mut [Node],
     values: &mut [QuantityRow],
@@ -53,9 +40,9 @@ pub fn hang_or_free(
     clipping: Clipping,
     node: u16,
     waiting: &mut [u16],
-) -> Spent {
+) -> Result<Open, Settled> {
     match paste(&Formula, nodes, values, sheet, clipping, node) {
-        Ok(pasted) => Spent::Hung(pasted.sheet),
-        Err(refused) => Spent::Freed(give_up(nodes, values, refused, waiting)),
+        Ok(pasted) => Ok(pasted.sheet),
+        Err(refused) => Err(give_up(nodes, values, refused, waiting)),
     }
 }

@@ -1,12 +1,8 @@
-use Rattle.std.proofs.Common.{List, length, sym, subst}
-use Rattle.table.specs.declared.node.Node.{Node}
-use Rattle.table.specs.Nodes.{at}
+use Rattle.std.proofs.Common.{length}
 use Rattle.table.proofs.Climbs.{climb_used}
 use Rattle.edit.specs.Checks.{cut_checks}
-use Rattle.edit.specs.Edits.{Exchanged}
-use Rattle.edit.specs.Hanging.{Hangable}
 use Rattle.edit.specs.Calls.{CutWork}
-use Rattle.edit.proofs.CutDone.{placed, hole_hangable, cut_done}
+use Rattle.edit.proofs.CutDone.{hole_hangable, cut_done}
 use Rattle.edit.proofs.Editing.{refused}
 use Rattle.edit.proofs.cutting.cut.Goals as goal
 
@@ -23,17 +19,14 @@ bounds-nodes-node g c = (climb_used c.args.nodes.now 0 c.args.node c.in_ok-hole.
 pub hang-requires : goal.hang-requires
 hang-requires g c =
     let m = c.in_ok-hole.ensures in
-    subst (λ (z : List Node). Hangable z c.in_ok-hole.hole c.args.node)
-    (sym (placed c.args.nodes.now c.put_hole.new.nodes c.in_ok-hole.hole ((g.L.Language.grammar c.args.language.now).symbol (at c.args.nodes.now c.args.node).production) c.symbol-symbol.result c.put_hole.ensures c.symbol-symbol.ensures))
+    rw (c.hole_node.ensures, c.symbol-symbol.ensures)
     (hole_hangable (g.L.Language.grammar c.args.language.now) (g.L.Language.text c.args.language.now) (g.L.Language.limits c.args.language.now) c.args.nodes.now c.args.node c.in_ok-hole.hole m.0.1.0.few m.0.1.1.0 m.0.1.1.1.0 m.0.1.1.1.1.0 m.1)
 
 pub returns : goal.returns
 returns g c =
-    let m = c.in_ok-hole.ensures in (
+    let m = c.in_ok-hole.ensures in
+    let hung = rw (c.hole_node.ensures, c.symbol-symbol.ensures) at c.hang.ensures in (
       m.0,
       cut_done (g.L.Language.grammar c.args.language.now) (g.L.Language.text c.args.language.now) (g.L.Language.limits c.args.language.now) c.args.nodes.now c.args.node c.in_ok-hole.hole m.0.1.0.few m.0.1.1.0 m.0.1.1.1.0 m.0.1.1.1.1.0 m.1
-          (λ row. g.L.Value.Figure.means (g.L.Value.Figure.reads row)) g.L.Value.Figure.nothing c.hang.new.nodes c.args.values.now c.blank_node.new.values
-          (subst (λ (z : List Node). Exchanged c.in_ok-hole.hole c.args.node z c.hang.new.nodes)
-          (placed c.args.nodes.now c.put_hole.new.nodes c.in_ok-hole.hole ((g.L.Language.grammar c.args.language.now).symbol (at c.args.nodes.now c.args.node).production) c.symbol-symbol.result c.put_hole.ensures c.symbol-symbol.ensures) c.hang.ensures)
-          c.blank_node.ensures,
+          (λ row. g.L.Value.Figure.means (g.L.Value.Figure.reads row)) g.L.Value.Figure.nothing c.hang.new.nodes c.args.values.now c.blank_node.new.values hung c.blank_node.ensures,
     )

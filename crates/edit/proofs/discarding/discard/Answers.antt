@@ -1,33 +1,29 @@
-use Rattle.std.proofs.Common.{[], ◌∷◌, ◌++◌, length}
-use Rattle.table.specs.Checks.{beginning, long_enough}
-use Rattle.table.specs.Refusals.{lifted}
-use Rattle.edit.specs.declared.fault.EditFault.TheVariants.{Table}
-use Rattle.edit.specs.Checks.{clipping_at}
-use Rattle.edit.specs.Calls.{DiscardWork}
-use Rattle.edit.proofs.Refused.{refused, waiting_kept}
+use Rattle.std.proofs.Common.{List, length, subst}
+use Rattle.table.specs.declared.node.Node.{Node}
+use Rattle.edit.specs.Gathering.{Gathered}
 use Rattle.edit.proofs.FreedClipping.{discard_work}
+use Rattle.edit.proofs.Listing.{listed_inside, clipping_freed}
 use Rattle.edit.proofs.discarding.discard.Goals as goal
 
-pub returns-in_err-begin : goal.returns-in_err-begin
-returns-in_err-begin g c =
-    let gr = g.L.Language.grammar c.args.language.now in (
-      refused gr (λ row. g.L.Value.Figure.means (g.L.Value.Figure.reads row)) g.L.Value.Figure.nothing c.args.nodes.now c.args.values.now [] (beginning gr c.args.nodes.now (length c.args.values.now))
-          (lifted Table (long_enough (length c.args.waiting.now) (length c.args.nodes.now) ∷ []) ++ (clipping_at c.args.nodes.now c.args.root ∷ []))
-          (λ a. DiscardWork gr (λ row. g.L.Value.Figure.means (g.L.Value.Figure.reads row)) g.L.Value.Figure.nothing c.args.nodes.now c.args.values.now c.args.nodes.now c.args.values.now c.args.root c.args.waiting.now c.args.waiting.now)
-          c.in_err-begin.field-0.0 c.from_residual.result tt
-          c.in_err-begin.ensures c.from_residual.ensures.1,
-      waiting_kept gr (λ row. g.L.Value.Figure.means (g.L.Value.Figure.reads row)) g.L.Value.Figure.nothing c.args.nodes.now c.args.values.now c.args.waiting.now c.in_err-begin.field-0.0 c.from_residual.result c.from_residual.ensures.1,
-    )
+pub free_listed-requires : goal.free_listed-requires
+free_listed-requires g c =
+    listed_inside c.args.root c.gather-count.result c.args.nodes.now c.args.waiting.now c.gather-count.new.slots
+    (subst (λ (ns : List Node). Gathered ns c.args.root (length ns) c.args.waiting.now c.gather-count.new.slots c.gather-count.result) c.in_ok-table.ensures.table c.gather-count.ensures)
 
 pub returns : goal.returns
 returns g c =
-    let met = c.in_ok-begin.ensures in
+    let met = c.in_ok-table.ensures.answer in
     let room = c.in_ok-check_buffer.ensures in
-    let root = c.if-not-is_clipping_root.ensures in (
+    let root = c.if-not-is_clipping_root.ensures in
+    let freed =
+    clipping_freed c.args.root c.gather-count.result c.args.nodes.now c.free_listed.new.nodes c.args.waiting.now c.gather-count.new.slots room.0
+    (subst (λ (ns : List Node). Gathered ns c.args.root (length ns) c.args.waiting.now c.gather-count.new.slots c.gather-count.result) c.in_ok-table.ensures.table c.gather-count.ensures)
+    c.free_listed.ensures
+    in (
       (
         (met.0, (met.1.0, (met.1.1.0, (room.0, (root, tt))))),
-        discard_work (g.L.Language.grammar c.args.language.now) c.args.nodes.now c.free_clipping.new.nodes c.args.root met.1.1.0 met.1.0.few root
-            c.free_clipping.ensures.records _ _ c.args.values.now c.args.waiting.now c.free_clipping.new.waiting c.free_clipping.ensures.same_waiting,
+        discard_work (g.L.Language.grammar c.args.language.now) c.args.nodes.now c.free_listed.new.nodes c.args.root met.1.1.0 met.1.0.few root
+            freed.records _ _ c.args.values.now c.args.waiting.now c.gather-count.new.slots freed.same_waiting,
       ),
       tt,
     )

@@ -1,11 +1,11 @@
 use Rattle.std.proofs.Common.{arith}
-use Rattle.edit.proofs.Freshness.{named_more, named_out}
+use Rattle.edit.proofs.Freshness.{named_of_none, named_of_more}
 use Rattle.edit.proofs.fresh.new_nodes.Goals as goal
 
-pub returns-in-None : goal.returns-in-None
-returns-in-None c =
-    named_out c.args.nodes.now c.loop-k.k c.loop-k.below c.args.count c.loop-k.children c.loop-k-test.true c.loop-k.invariant c.in-None.ensures
+pub loop-child-init : goal.loop-child-init
+loop-child-init c = named_of_none c.args.nodes.now c.args.count
 
-pub loop-k-preserved : goal.loop-k-preserved
-loop-k-preserved c =
-    named_more c.args.nodes.now c.loop-k.k c.loop-k.below c.in-Some.n c.loop-k.children (omega arith) c.loop-k.invariant c.in-Some.ensures
+pub loop-child-preserved : goal.loop-child-preserved
+loop-child-preserved c =
+    named_of_more c.args.nodes.now c.args.count c.loop-child.child-index c.loop-child.below c.in_ok-below.below c.loop-child.child-items
+    (omega arith) (omega arith) c.loop-child.invariant c.in_ok-below.ensures

@@ -1,5 +1,5 @@
-use Rattle.edit.proofs.Freshness.{Named}
+use Rattle.edit.proofs.Freshness.{NamedOf}
 use Rattle.edit.proofs.fresh.new_nodes.Given as goal
 
-abbrev pub invariant-loop-k : goal.invariant-loop-k
-invariant-loop-k l = Named l.nodes l.k l.below l.children
+abbrev pub invariant-loop-child : goal.invariant-loop-child
+invariant-loop-child l = NamedOf l.nodes l.count l.child-index l.below l.child-items

@@ -1,6 +1,6 @@
 use Rattle.std.proofs.Common.{length, to_z-of_z}
 use Rattle.edit.proofs.Editing.{insert_refused}
-use Rattle.edit.proofs.Filling.{node_inside, few_symbols, fields_apart, fields_roomy, insert_done}
+use Rattle.edit.proofs.Filling.{node_inside, fields_enough, fields_apart, fields_roomy, insert_done}
 use Rattle.edit.proofs.inserting.insert.Goals as goal
 
 pub returns-in_err-at : goal.returns-in_err-at
@@ -15,19 +15,15 @@ set_production-requires g c =
 
 pub put_holes-requires : goal.put_holes-requires
 put_holes-requires g c = (
-  few_symbols (g.L.Language.grammar c.args.language.now) (g.L.Language.text c.args.language.now) (g.L.Language.limits c.args.language.now) c.args.nodes.now (length c.args.values.now) c.args.n c.args.production c.args.literal _ (to_z-of_z c.ranges.literal)
+  fields_enough (g.L.Language.grammar c.args.language.now) (g.L.Language.text c.args.language.now) (g.L.Language.limits c.args.language.now) c.args.nodes.now (length c.args.values.now) c.args.n c.args.production c.args.literal _ (to_z-of_z c.ranges.literal)
       c.in_ok-at.at c.children-symbols.result.now c.children-symbols.ensures c.in_ok-at.ensures,
   fields_apart (g.L.Language.grammar c.args.language.now) (g.L.Language.text c.args.language.now) (g.L.Language.limits c.args.language.now) c.args.nodes.now (length c.args.values.now) c.args.n c.args.production c.args.literal _ (to_z-of_z c.ranges.literal)
       c.in_ok-at.at c.children-symbols.result.now c.children-symbols.ensures c.in_ok-at.ensures c.set_production.new.nodes c.set_production.auto.nodes,
 )
 
 pub blank_nodes-requires : goal.blank_nodes-requires
-blank_nodes-requires g c = (
-  few_symbols (g.L.Language.grammar c.args.language.now) (g.L.Language.text c.args.language.now) (g.L.Language.limits c.args.language.now) c.args.nodes.now (length c.args.values.now) c.args.n c.args.production c.args.literal _ (to_z-of_z c.ranges.literal)
-      c.in_ok-at.at c.children-symbols.result.now c.children-symbols.ensures c.in_ok-at.ensures,
-  fields_roomy (g.L.Language.grammar c.args.language.now) (g.L.Language.text c.args.language.now) (g.L.Language.limits c.args.language.now) c.args.nodes.now (length c.args.values.now) c.args.n c.args.production c.args.literal _ (to_z-of_z c.ranges.literal)
-      c.in_ok-at.at c.children-symbols.result.now c.children-symbols.ensures c.in_ok-at.ensures,
-)
+blank_nodes-requires g c = fields_roomy (g.L.Language.grammar c.args.language.now) (g.L.Language.text c.args.language.now) (g.L.Language.limits c.args.language.now) c.args.nodes.now (length c.args.values.now) c.args.n c.args.production c.args.literal _ (to_z-of_z c.ranges.literal)
+    c.in_ok-at.at c.children-symbols.result.now c.children-symbols.ensures c.in_ok-at.ensures
 
 pub returns : goal.returns
 returns g c =

@@ -1,4 +1,4 @@
-use Rattle.std.proofs.Common.{length, refl, arith}
+use Rattle.std.proofs.Common.{length, refl}
 use Rattle.table.proofs.Climbs.{climb_used}
 use Rattle.table.proofs.Members.{at_most_three}
 use Rattle.edit.specs.Checks.{paste_checks}
@@ -23,15 +23,10 @@ hang-requires g c =
     (sheet_is_forest (g.L.Language.grammar c.args.language.now) c.args.nodes.now m.1.1.0) c.args.root c.args.node m.1.1.1.0 m.1.1.1.1.0
     (hole_elsewhere (g.L.Language.grammar c.args.language.now) c.args.nodes.now m.1.1.0 c.args.node (climb_used c.args.nodes.now 0 c.args.node m.1.1.1.1.0) m.1.1.1.1.1.0)
 
-pub free_node-requires : goal.free_node-requires
-free_node-requires g c =
-    let m = c.in_ok-check_paste.ensures in
-    omega (arith, (climb_used c.args.nodes.now 0 c.args.node m.1.1.1.1.0).0, c.hang.ensures.others.many)
-
 pub returns : goal.returns
 returns g c =
     let m = c.in_ok-check_paste.ensures in (
       m,
       paste_done (g.L.Language.grammar c.args.language.now) (g.L.Language.text c.args.language.now) (g.L.Language.limits c.args.language.now) (λ row. g.L.Value.Figure.means (g.L.Value.Figure.reads row)) g.L.Value.Figure.nothing c.args.nodes.now c.hang.new.nodes c.args.values.now c.args.values.now
-          c.args.root c.args.node m.1.0.few m.1.1.0 m.1.1.1.0 m.1.1.1.1.0 m.1.1.1.1.1.0 m.1.1.1.1.1.1.0 c.hang.ensures c.free_node.new.nodes c.free_node.ensures refl,
+          c.args.root c.args.node m.1.0.few m.1.1.0 m.1.1.1.0 m.1.1.1.1.0 m.1.1.1.1.1.0 m.1.1.1.1.1.1.0 c.hang.ensures _ refl refl,
     )
