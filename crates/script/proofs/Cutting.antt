@@ -72,8 +72,8 @@ word_in_front xs (Some n) pos front h =
     ap (filter has_bytes) (cut is_blank xs n h)
     ∙ one_word (take n xs) (slice_split is_blank (drop (suc n) xs)) (let lt = h.0 in simp length-take (omega arith))
     ∙ ap (λ ws. take n xs ∷ ws)
-      (sym (ap words (drop-cons xs n 0 h.0)
-      ∙ ap (filter has_bytes) (slice_split-cons_yes is_blank (get_or xs n 0) (drop (suc n) xs) (h.1 0))))
+    (sym (ap words (drop-cons xs n 0 h.0)
+    ∙ ap (filter has_bytes) (slice_split-cons_yes is_blank (get_or xs n 0) (drop (suc n) xs) (h.1 0))))
 
 -- the first word behind the m blanks in front, and the rest; ys is what follows those blanks
 pub first_word : (xs ys : List ℕ) (m : ℕ) (r : Option ℕ) → ys ≡ drop m xs
