@@ -1,5 +1,5 @@
 -- Which line makes which call.
-use Rattle.std.specs.Prelude.{ℕ, List, [], ◌∷◌, codes, ◌==◌, if◌then◌else◌, slice_index, Option, Some, None, Result, Ok, Err, MatchResult}
+use Rattle.std.specs.Prelude.{ℕ, List, [], ◌∷◌, codes, ◌==◌, if◌then◌else◌, slice_index, Option, Some, None, Result, Ok, Err}
 use Rattle.std.specs.Str.{bytes_eq}
 use Rattle.script.specs.declared.call.LanguageName.{LanguageName}
 use Rattle.script.specs.declared.call.LanguageName.TheVariants.{Formula, Plan, Altered}

@@ -1,5 +1,6 @@
 -- What a program prints for a script, by what its conversation answers to each call.
 use Rattle.std.specs.Prelude.{◌≡◌, ℕ, List, [], ◌∷◌, ◌++◌, codes, Option, None, Some, Result, Ok, Err}
+use Rattle.std.specs.Io.KnownBytes.{Appends}
 use Rattle.script.specs.declared.answer.Answer.{Answer}
 use Rattle.script.specs.declared.answer.Answer.TheVariants.{NotAccepted}
 use Rattle.script.specs.declared.call.Call.{Call}
@@ -30,3 +31,8 @@ Transcript answers closing before [] printed = printed ≡ last_line (closing be
 Transcript {S} answers closing before (line ∷ rest) printed =
     (first : List ℕ) × (others : List ℕ) × (after : S) × Prints answers before line first after
     × Transcript answers closing after rest others × (printed ≡ first ++ others)
+
+-- A transcript of the script goes to a writer, behind what it holds.
+abbrev pub Said : {S : Type 0} → (S → Call → Answer → S → Type 0) → (S → Answer) → S → List (List ℕ) → Option (List ℕ) → Option (List ℕ) → Type 0
+Said answers closing before script held holds =
+    (printed : List ℕ) × Transcript answers closing before script printed × Appends held holds printed

@@ -1,8 +1,8 @@
 // Conversations: what a program knows while it goes through a script, and the run through a whole script.
-ghost use Rattle.std.specs.Prelude.{◌≡◌, ℕ, List, ◌++◌, IfOk, OnOk};
+ghost use Rattle.std.specs.Prelude.{◌≡◌, ℕ, List, ◌++◌, IfOk, OnOk, IfSome};
 ghost use Rattle.script.specs.declared.answer.Answer.{Answer as AnswerOf};
 ghost use Rattle.script.specs.declared.call.Call.{Call as CallOf};
-ghost use Rattle.script.specs.Transcript.{Prints, Transcript};
+ghost use Rattle.script.specs.Transcript.{Prints, Said, Transcript};
 ghost use Rattle.script.specs.Words.{lines};
 
 use crate::answer::Answer;
@@ -11,6 +11,8 @@ use crate::printing::print_reply;
 use crate::reading::read_line;
 use crate::words::Lines;
 use std::alloc::{AllocError, Global};
+use std::io;
+use std::io::{Read, Write};
 
 // What answers the calls of a script, one after the other.
 pub trait Conversation {
@@ -57,4 +59,19 @@ pub fn run<C: Conversation>(
     }
     print_reply(&mut out, b"end", conversation.close())?;
     Ok(out)
+}
+
+// Reads a script to its end, and writes what is printed for it.
+pub fn converse<C: Conversation, R: Read, W: Write>(
+    heap: Global,
+    conversation: &mut C,
+    input: &mut R,
+    output: &mut W,
+) -> io::Result<()>
+    ensures { OnOk result (IfSome (R.remaining input.old) (λ script. Said C.Conversation.answers C.Conversation.closing conversation.old (lines script) (W.contents output.old) (W.contents output.new))) }
+{
+    let mut script = Vec::new(heap);
+    input.read_to_end(&mut script)?;
+    let printed = run(heap, conversation, &script)?;
+    output.write_all(&printed)
 }
