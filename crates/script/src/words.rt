@@ -32,12 +32,12 @@ pub fn first_line(input: &[u8]) -> (&[u8], Option<&[u8]>)
 
 // The words of a line, one after the other.
 #[derive(Drop)]
-pub struct Words<'a> {
+pub(crate) struct Words<'a> {
     rest: &'a [u8],
 }
 
 impl<'a> Words<'a> {
-    pub fn of(line: &'a [u8]) -> Words<'a>
+    pub(crate) fn of(line: &'a [u8]) -> Words<'a>
         ensures { words_left result ≡ words line.now }
     {
         Words { rest: line }
@@ -60,12 +60,12 @@ impl<'a> Iterator for Words<'a> {
 
 // The lines of an input, one after the other.
 #[derive(Drop)]
-pub struct Lines<'a> {
+pub(crate) struct Lines<'a> {
     rest: Option<&'a [u8]>,
 }
 
 impl<'a> Lines<'a> {
-    pub fn of(input: &'a [u8]) -> Lines<'a>
+    pub(crate) fn of(input: &'a [u8]) -> Lines<'a>
         ensures { lines_left result ≡ lines input.now }
     {
         Lines { rest: Some(input) }
