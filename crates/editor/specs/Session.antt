@@ -1,39 +1,23 @@
--- What the editor answers to each call, and the session after it.
-use Rattle.std.specs.Prelude.{◌≡◌}
-use Rattle.script.specs.declared.answer.Answer.{Answer}
-use Rattle.script.specs.declared.answer.Answer.TheVariants.{Done, NotAccepted}
-use Rattle.script.specs.declared.call.Call.{Call}
-use Rattle.script.specs.declared.call.Call.TheVariants.{Language, Test}
+-- Which languages the editor works in, and which it goes to.
+use Rattle.std.specs.Prelude.{Option, None, Some, Result, Ok, Err}
+use Rattle.grammar.specs.Grammar.{Grammar}
 use Rattle.script.specs.declared.call.LanguageName.{LanguageName}
-use Rattle.script.specs.declared.call.LanguageName.TheVariants.{Formula, Plan, Altered}
-use Rattle.script.specs.declared.call.Reason.TheVariants.{UnknownLanguage, NoLanguage, LanguageChosen}
-use Rattle.script.specs.Testing.{Tested}
+use Rattle.script.specs.declared.call.LanguageName.TheVariants.{Formula as formula, Plan as plan, Altered as altered}
+use Rattle.script.specs.declared.call.Reason.{Reason}
+use Rattle.script.specs.declared.call.Reason.TheVariants.{UnknownLanguage, LanguageChosen}
 use Rattle.formula.specs.Table.{formula_grammar}
 use Rattle.plan.specs.Table.{plan_grammar}
-use Rattle.editor.specs.declared.session.Session.{Session}
-use Rattle.editor.specs.declared.session.Session.TheVariants.{Unchosen, OnFormula, OnPlan}
-
--- a language is chosen already, and stays
-abbrev pub IsKept : Session → Answer → Session → Type 0
-IsKept before answer after = (answer ≡ NotAccepted LanguageChosen) × (after ≡ before)
+use Rattle.editor.specs.declared.session.Language.{Language}
+use Rattle.editor.specs.declared.session.Language.TheVariants.{Formula, Plan}
 
 -- A language is chosen once. The editor has no altered plan.
-abbrev pub Chosen : Session → LanguageName → Answer → Session → Type 0
-Chosen before Altered answer after = (answer ≡ NotAccepted UnknownLanguage) × (after ≡ before)
-Chosen Unchosen Formula answer after = (answer ≡ Done) × (after ≡ OnFormula)
-Chosen Unchosen Plan answer after = (answer ≡ Done) × (after ≡ OnPlan)
-Chosen OnFormula Formula answer after = IsKept OnFormula answer after
-Chosen OnFormula Plan answer after = IsKept OnFormula answer after
-Chosen OnPlan Formula answer after = IsKept OnPlan answer after
-Chosen OnPlan Plan answer after = IsKept OnPlan answer after
+abbrev pub choice : Option Language → LanguageName → Result Language Reason
+choice chosen altered = Err UnknownLanguage
+choice None formula = Ok Formula
+choice None plan = Ok Plan
+choice (Some language) formula = Err LanguageChosen
+choice (Some language) plan = Err LanguageChosen
 
--- A test is one of the language chosen.
-abbrev pub TestedIn : Session → Answer → Type 0
-TestedIn Unchosen answer = answer ≡ NotAccepted NoLanguage
-TestedIn OnFormula answer = Tested formula_grammar answer
-TestedIn OnPlan answer = Tested plan_grammar answer
-
--- which answer a call gets, and the session after it
-abbrev pub Answered : Session → Call → Answer → Session → Type 0
-Answered before (Language name) answer after = Chosen before name answer after
-Answered before Test answer after = TestedIn before answer × (after ≡ before)
+abbrev pub grammar_of : Language → Grammar
+grammar_of Formula = formula_grammar
+grammar_of Plan = plan_grammar

@@ -3,15 +3,12 @@
 
 mod session;
 
-use script::conversation::run;
-use session::Session;
+use script::conversation::converse;
+use script::session::Session;
+use session::Editor;
 use std::io;
-use std::io::{Read, Write};
 
 fn main(rt: HostRuntime) -> io::Result<()> {
-    let mut script = Vec::new(rt.alloc());
-    rt.stdin().read_to_end(&mut script)?;
-    let mut session = Session::Unchosen;
-    let printed = run(rt.alloc(), &mut session, &script)?;
-    rt.stdout().write_all(&printed)
+    let mut session = Session::<Editor>::new();
+    converse(rt.alloc(), &mut session, &mut rt.stdin(), &mut rt.stdout())
 }

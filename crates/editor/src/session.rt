@@ -1,64 +1,44 @@
-// A session of the editor: which language it works in.
+// What a session of the editor works in.
 ghost use Rattle.std.specs.Prelude.{◌≡◌};
-ghost use Rattle.script.specs.declared.answer.Answer.TheVariants.{NoSheet};
-ghost use Rattle.editor.specs.Session.{Chosen, TestedIn, Answered};
+ghost use Rattle.editor.specs.Session.{choice, grammar_of};
 
 use formula::Formula;
 use plan::Plan;
 use script::answer::Answer;
-use script::call::{Call, LanguageName, Reason};
-use script::conversation::Conversation;
+use script::call::{LanguageName, Reason};
+use script::session::Program;
 use script::testing::tested;
 
-#[derive(Clone, Copy)]
-pub enum Session {
-    Unchosen,
-    OnFormula,
-    OnPlan,
+#[derive(Clone, Copy, PartialEq, Eq)]
+pub enum Language {
+    Formula,
+    Plan,
 }
 
-impl Session {
-    fn choose(&mut self, name: LanguageName) -> Answer
-        ensures { Chosen self.old name result self.new }
+pub struct Editor;
+
+impl Program for Editor {
+    type Language = Language;
+
+    ghost choice = { choice };
+
+    ghost grammar = { grammar_of };
+
+    fn choose(chosen: Option<Language>, name: LanguageName) -> Result<Language, Reason>
+        ensures { result ≡ choice chosen name }
     {
-        match (*self, name) {
-            (_, LanguageName::Altered) => Answer::NotAccepted(Reason::UnknownLanguage),
-            (Session::Unchosen, LanguageName::Formula) => {
-                *self = Session::OnFormula;
-                Answer::Done
-            }
-            (Session::Unchosen, LanguageName::Plan) => {
-                *self = Session::OnPlan;
-                Answer::Done
-            }
-            _ => Answer::NotAccepted(Reason::LanguageChosen),
+        match (chosen, name) {
+            (_, LanguageName::Altered) => Err(Reason::UnknownLanguage),
+            (Some(_), _) => Err(Reason::LanguageChosen),
+            (None, LanguageName::Formula) => Ok(Language::Formula),
+            (None, LanguageName::Plan) => Ok(Language::Plan),
         }
     }
 
-    fn test(self) -> Answer
-        ensures { TestedIn self result }
-    {
-        match self {
-            Session::Unchosen => Answer::NotAccepted(Reason::NoLanguage),
-            Session::OnFormula => tested(&Formula),
-            Session::OnPlan => tested(&Plan),
+    fn test(language: Language) -> Answer {
+        match language {
+            Language::Formula => tested(&Formula),
+            Language::Plan => tested(&Plan),
         }
-    }
-}
-
-impl Conversation for Session {
-    ghost answers = { Answered };
-
-    ghost closing = { λ _. NoSheet };
-
-    fn answer(&mut self, call: Call) -> Answer {
-        match call {
-            Call::Language(name) => self.choose(name),
-            Call::Test => self.test(),
-        }
-    }
-
-    fn close(&self) -> Answer {
-        Answer::NoSheet
     }
 }

@@ -1,74 +1,39 @@
-// A session of the probe: which language it works in.
+// What a session of the probe works in.
 ghost use Rattle.std.specs.Prelude.{◌≡◌};
-ghost use Rattle.script.specs.declared.answer.Answer.TheVariants.{NoSheet};
-ghost use Rattle.probe.specs.Session.{on, Chosen, TestedIn, Answered};
+ghost use Rattle.probe.specs.Session.{choice, grammar_of};
 
 use formula::Formula;
 use plan::{AlteredPlan, Plan};
 use script::answer::Answer;
-use script::call::{Call, LanguageName, Reason};
-use script::conversation::Conversation;
+use script::call::{LanguageName, Reason};
+use script::session::Program;
 use script::testing::tested;
 
-#[derive(Clone, Copy)]
-pub enum Session {
-    Unchosen,
-    OnFormula,
-    OnPlan,
-    OnAltered,
-}
+pub struct Probe;
 
-// The session on a language.
-fn on(name: LanguageName) -> Session
-    ensures { result ≡ on name }
-{
-    match name {
-        LanguageName::Formula => Session::OnFormula,
-        LanguageName::Plan => Session::OnPlan,
-        LanguageName::Altered => Session::OnAltered,
-    }
-}
+impl Program for Probe {
+    type Language = LanguageName;
 
-impl Session {
-    fn choose(&mut self, name: LanguageName) -> Answer
-        ensures { Chosen self.old name result self.new }
+    ghost choice = { choice };
+
+    ghost grammar = { grammar_of };
+
+    fn choose(chosen: Option<LanguageName>, name: LanguageName) -> Result<LanguageName, Reason>
+        ensures { result ≡ choice chosen name }
     {
-        match (*self, name) {
-            (Session::Unchosen, _)
-            | (Session::OnPlan, LanguageName::Altered)
-            | (Session::OnAltered, LanguageName::Plan) => {
-                *self = on(name);
-                Answer::Done
-            }
-            _ => Answer::NotAccepted(Reason::LanguageChosen),
+        match (chosen, name) {
+            (None, _)
+            | (Some(LanguageName::Plan), LanguageName::Altered)
+            | (Some(LanguageName::Altered), LanguageName::Plan) => Ok(name),
+            _ => Err(Reason::LanguageChosen),
         }
     }
 
-    fn test(self) -> Answer
-        ensures { TestedIn self result }
-    {
-        match self {
-            Session::Unchosen => Answer::NotAccepted(Reason::NoLanguage),
-            Session::OnFormula => tested(&Formula),
-            Session::OnPlan => tested(&Plan),
-            Session::OnAltered => tested(&AlteredPlan),
+    fn test(language: LanguageName) -> Answer {
+        match language {
+            LanguageName::Formula => tested(&Formula),
+            LanguageName::Plan => tested(&Plan),
+            LanguageName::Altered => tested(&AlteredPlan),
         }
-    }
-}
-
-impl Conversation for Session {
-    ghost answers = { Answered };
-
-    ghost closing = { λ _. NoSheet };
-
-    fn answer(&mut self, call: Call) -> Answer {
-        match call {
-            Call::Language(name) => self.choose(name),
-            Call::Test => self.test(),
-        }
-    }
-
-    fn close(&self) -> Answer {
-        Answer::NoSheet
     }
 }

@@ -1,129 +1,92 @@
--- Where a line is cut: what its pieces and words are where its front is a run of bytes that separate, or of bytes that do not.
-use Rattle.std.proofs.Common.{◌≡◌, ℕ, zero, suc, ◌+◌, ◌-◌, ◌<◌, ◌≤◌, Bool, true, false, not, List, [], ◌∷◌, length, get_or, take, drop, sym, refl, ap, ◌∙◌, inl, inr, eq-or-lt_of_le, add-one, arith, length-drop, length-take, take_all, drop-cons}
-use native.Mathlib.Nat.{sub-zero}
-use Rattle.std.proofs.lemmas.List.{drop_all}
-use Rattle.script.specs.Words.{is_blank, is_line_feed, begun_with, pieces, filled, lines, words, Leads, FirstWord, FirstLine}
-use Rattle.script.specs.declared.words.Run.TheVariants.{Blanks, Word, Line}
+-- Where a line is cut: its first word, and the first line of an input, by where the first byte that separates stands.
+use Rattle.std.proofs.Common.{◌≡◌, ℕ, zero, suc, ◌+◌, ◌-◌, ◌<◌, Bool, true, false, List, [], ◌∷◌, Option, None, Some, unwrap_or, MatchOption, length, get_or, take, drop, filter, sym, ap, refl, ◌∙◌, arith, length-drop, length-take, take_all, drop-cons, add-one}
+use Rattle.std.specs.List.{AllWithin, HoldsAt, onto_first, slice_split}
+use Rattle.std.proofs.lemmas.Bool.{false≢true}
+use Rattle.std.proofs.lemmas.List.{drop_all, take_rest}
+use Rattle.std.proofs.lemmas.List.Splits.{slice_split-cons_yes, slice_split-cons_no, slice_split_none}
+use Rattle.script.specs.Words.{is_blank, is_line_feed, has_bytes, words, FirstWord, FirstLine}
 
--- every byte of the first n answers v
-abbrev pub Answers : (ℕ → Bool) → Bool → List ℕ → ℕ → Type 0
-Answers p v xs n = (k : ℕ) → k < n → p (get_or xs k 0) ≡ v
+-- where the first byte that separates stands, or that there is none
+abbrev pub IsFirst : (ℕ → Bool) → List ℕ → Option ℕ → Type 0
+IsFirst p xs r =
+    MatchOption r (AllWithin (λ b. p b ≡ false) xs 0 (length xs))
+    (λ n. (n < length xs) × HoldsAt (λ b. p b ≡ true) xs n × AllWithin (λ b. p b ≡ false) xs 0 n)
 
-pub later : (p : ℕ → Bool) (v : Bool) (b : ℕ) (xs : List ℕ) (n : ℕ) → Answers p v (b ∷ xs) (suc n) → Answers p v xs n
-later p v b xs n h = λ k lt. h (suc k) (omega arith)
+-- the one part, where no byte separates
+pub whole : (p : ℕ → Bool) (xs : List ℕ) → IsFirst p xs None → slice_split p xs ≡ xs ∷ []
+whole p xs h = slice_split_none p xs (λ k d lt. h k d (omega arith) lt)
 
--- one byte more in front, which separates or does not
-pub pieces_separated : (p : ℕ → Bool) (b : ℕ) (xs : List ℕ) → p b ≡ true → pieces p (b ∷ xs) ≡ [] ∷ pieces p xs
-pieces_separated p b xs e = rw (e, pieces)
+-- the first part and the others, where the byte at n is the first that separates
+pub cut : (p : ℕ → Bool) (xs : List ℕ) (n : ℕ) → IsFirst p xs (Some n) → slice_split p xs ≡ take n xs ∷ slice_split p (drop (suc n) xs)
+cut p [] n h = absurd (let lt = h.0 in omega arith)
+cut p (b ∷ xs) zero h = slice_split-cons_yes p b xs (h.1 0)
+cut p (b ∷ xs) (suc n) h =
+    slice_split-cons_no p b xs (h.2 0 0 (omega arith) (omega arith))
+    ∙ ap (onto_first b) (cut p xs n (let lt = h.0 in omega arith, λ d. h.1 d, λ k d low lt. h.2 (suc k) d (omega arith) (omega arith)))
 
-pub pieces_begun : (p : ℕ → Bool) (b : ℕ) (xs : List ℕ) → p b ≡ false → pieces p (b ∷ xs) ≡ begun_with b (pieces p xs)
-pieces_begun p b xs e = rw (e, pieces)
+pub first_line : (xs : List ℕ) (n : ℕ) → IsFirst is_line_feed xs (Some n)
+    → FirstLine xs (take n xs) (take (length xs - (n + 1)) (drop (n + 1) xs))
+first_line xs n h =
+    record {
+      lines_are = cut is_line_feed xs n h ∙ rw (take_rest xs (n + 1), add-one n);
+      shorter = rw (take_rest xs (n + 1)) (simp length-drop (let lt = h.0 in omega arith));
+    }
 
 -- leading blanks change no word
-pub words_past_blanks : (xs : List ℕ) (n : ℕ) → Answers is_blank true xs n → words xs ≡ words (drop n xs)
+pub words_past_blanks : (xs : List ℕ) (n : ℕ) → AllWithin (λ b. is_blank b ≡ true) xs 0 n → words xs ≡ words (drop n xs)
 words_past_blanks xs zero h = refl
 words_past_blanks [] (suc n) h = refl
 words_past_blanks (b ∷ xs) (suc n) h =
-    ap filled (pieces_separated is_blank b xs (h 0 (omega arith)))
-    ∙ words_past_blanks xs n (later is_blank true b xs n h)
+    ap (filter has_bytes) (slice_split-cons_yes is_blank b xs (h 0 0 (omega arith) (omega arith)))
+    ∙ words_past_blanks xs n (λ k d low lt. h (suc k) d (omega arith) (omega arith))
 
--- the one piece, where no byte separates
-pub pieces_whole : (p : ℕ → Bool) (xs : List ℕ) → Answers p false xs (length xs) → pieces p xs ≡ xs ∷ []
-pieces_whole p [] h = refl
-pieces_whole p (b ∷ xs) h =
-    pieces_begun p b xs (h 0 (omega arith))
-    ∙ ap (begun_with b) (pieces_whole p xs (later p false b xs (length xs) h))
+-- a part that is not empty is a word
+pub one_word : (w : List ℕ) (rest : List (List ℕ)) → 0 < length w
+    → filter has_bytes (w ∷ rest) ≡ w ∷ filter has_bytes rest
+one_word [] rest lt = absurd (omega arith)
+one_word (b ∷ w) rest lt = refl
 
--- the first piece and the others, where the byte at n is the first that separates
-pub pieces_cut : (p : ℕ → Bool) (xs : List ℕ) (n : ℕ) → n < length xs → Answers p false xs n → p (get_or xs n 0) ≡ true
-    → pieces p xs ≡ take n xs ∷ pieces p (drop (suc n) xs)
-pieces_cut p [] n lt h at = absurd (omega arith)
-pieces_cut p (b ∷ xs) zero lt h at = pieces_separated p b xs at
-pieces_cut p (b ∷ xs) (suc n) lt h at =
-    pieces_begun p b xs (h 0 (omega arith))
-    ∙ ap (begun_with b) (pieces_cut p xs n (omega arith) (later p false b xs n h) at)
+-- no word where every byte is blank
+pub no_word : (xs : List ℕ) → AllWithin (λ b. is_blank b ≡ true) xs 0 (length xs) → words xs ≡ []
+no_word xs h = words_past_blanks xs (length xs) h ∙ rw (drop_all (length xs) xs (omega arith))
 
--- a piece that is not empty is a word
-pub filled_word : (w : List ℕ) (rest : List (List ℕ)) → 0 < length w → filled (w ∷ rest) ≡ w ∷ filled rest
-filled_word [] rest lt = absurd (omega arith)
-filled_word (b ∷ w) rest lt = refl
+-- a blank is no other byte
+apart : (b : Bool) → b ≡ true → b ≡ false → 0 < 0
+apart b one other = absurd (false≢true (sym other ∙ one))
 
--- the blank that ends a word changes no word
-pub words_at_blank : (xs : List ℕ) (n : ℕ) → n < length xs → is_blank (get_or xs n 0) ≡ true
-    → words (drop n xs) ≡ filled (pieces is_blank (drop (suc n) xs))
-words_at_blank xs n lt at =
-    ap words (drop-cons xs n 0 lt) ∙ ap filled (pieces_separated is_blank (get_or xs n 0) (drop (suc n) xs) at)
+-- where a byte that is no blank stands in front, the first blank stands behind it
+pub word_end : (xs : List ℕ) (r : Option ℕ) → 0 < length xs → is_blank (get_or xs 0 0) ≡ false → IsFirst is_blank xs r → 0 < unwrap_or r (length xs)
+word_end xs None pos front h = pos
+word_end xs (Some zero) pos front h = apart (is_blank (get_or xs 0 0)) (h.1 0) front
+word_end xs (Some (suc n)) pos front h = omega arith
 
--- the first word and the others, where n bytes that are not blank stand in front, and no more
-pub words_cut : (xs : List ℕ) (n : ℕ) → 0 < n → n ≤ length xs → Answers is_blank false xs n
-    → (n < length xs → is_blank (get_or xs n 0) ≡ true) → words xs ≡ take n xs ∷ words (drop n xs)
-words_cut xs n pos le h ends =
-    elim (eq-or-lt_of_le le) [
-      | inl e ↦ let end : length xs ≤ n = omega arith in
-          ap filled (pieces_whole is_blank xs (λ k lt. h k (omega arith)))
-          ∙ filled_word xs [] (omega arith)
-          ∙ rw (take_all n xs end, drop_all n xs end)
-      | inr lt ↦ ap filled (pieces_cut is_blank xs n lt h (ends lt))
-          ∙ filled_word (take n xs) (pieces is_blank (drop (suc n) xs)) (simp length-take (omega arith))
-          ∙ ap (λ ws. take n xs ∷ ws) (sym (words_at_blank xs n lt (ends lt)))
-    ]
+-- and the first word ends there
+pub word_in_front : (xs : List ℕ) (r : Option ℕ) → 0 < length xs → is_blank (get_or xs 0 0) ≡ false → IsFirst is_blank xs r
+    → words xs ≡ take (unwrap_or r (length xs)) xs ∷ words (drop (unwrap_or r (length xs)) xs)
+word_in_front xs None pos front h =
+    ap (filter has_bytes) (whole is_blank xs h)
+    ∙ one_word xs [] pos
+    ∙ rw (take_all (length xs) xs (omega arith), drop_all (length xs) xs (omega arith))
+word_in_front xs (Some n) pos front h =
+    let some = word_end xs (Some n) pos front h in
+    ap (filter has_bytes) (cut is_blank xs n h)
+    ∙ one_word (take n xs) (slice_split is_blank (drop (suc n) xs)) (let lt = h.0 in simp length-take (omega arith))
+    ∙ ap (λ ws. take n xs ∷ ws)
+    (sym (ap words (drop-cons xs n 0 h.0)
+    ∙ ap (filter has_bytes) (slice_split-cons_yes is_blank (get_or xs n 0) (drop (suc n) xs) (h.1 0))))
 
--- the opposite of an answer
-pub turned : (b : Bool) → not b ≡ true → b ≡ false
-turned true e = absurd (let z : ◌≡◌ {A = ℕ} 0 1 = cc in omega arith)
-turned false e = refl
-
-pub turned_back : (b : Bool) → not b ≡ false → b ≡ true
-turned_back true e = refl
-turned_back false e = absurd (let z : ◌≡◌ {A = ℕ} 0 1 = cc in omega arith)
-
-pub unlike : false ≡ true → ◌≡◌ {A = ℕ} 0 1
-unlike e = cc
-
--- a part up to the end
-pub part_to_end : (xs : List ℕ) (n : ℕ) → take (length xs - n) (drop n xs) ≡ drop n xs
-part_to_end xs n = take_all (length xs - n) (drop n xs) (simp length-drop (omega arith))
-
--- the last line has no line feed
-pub last_line : (xs : List ℕ) (n : ℕ) → Leads Line xs n → n ≡ length xs → lines xs ≡ xs ∷ []
-last_line xs n leads e =
-    pieces_whole is_line_feed xs (λ k lt. turned (is_line_feed (get_or xs k 0)) (leads.before k (omega arith)))
-
-pub first_line : (xs : List ℕ) (n : ℕ) → Leads Line xs n → n < length xs
-    → FirstLine xs (take (n - 0) xs) (take (length xs - (n + 1)) (drop (n + 1) xs))
-first_line xs n leads lt =
+-- the first word behind the m blanks in front, and the rest; ys is what follows those blanks
+pub first_word : (xs ys : List ℕ) (m : ℕ) (r : Option ℕ) → ys ≡ drop m xs
+    → (m < length xs) × HoldsAt (λ b. is_blank b ≡ false) xs m × AllWithin (λ b. is_blank b ≡ true) xs 0 m → IsFirst is_blank ys r
+    → FirstWord xs (take (unwrap_or r (length ys)) ys) (drop (unwrap_or r (length ys)) ys)
+first_word xs ys m r e found h =
+    let lt = found.0 in
+    let len : length ys ≡ length xs - m = ap length e ∙ length-drop m xs in
+    let some : 0 < length ys = omega arith in
+    let front : is_blank (get_or ys 0 0) ≡ false = rw (e, drop-cons xs m 0 lt) (found.1 0) in
+    let end : 0 < unwrap_or r (length ys) = word_end ys r some front h in
     record {
-      lines_are =
-          pieces_cut is_line_feed xs n lt (λ k below. turned (is_line_feed (get_or xs k 0)) (leads.before k below))
-          (turned_back (is_line_feed (get_or xs n 0)) (leads.behind lt))
-          ∙ rw (part_to_end xs (n + 1), add-one n, sub-zero n);
-      shorter = rw (part_to_end xs (n + 1)) (simp length-drop (omega arith));
-    }
-
--- no word where no byte of a word follows the blanks; ys is what follows them
-pub no_word : (xs ys : List ℕ) (m n : ℕ) → ys ≡ drop m xs → Leads Blanks xs m → Leads Word ys n → n ≡ 0 → words xs ≡ []
-no_word xs ys m n e blanks word none =
-    words_past_blanks xs m blanks.before
-    ∙ elim (eq-or-lt_of_le blanks.within) [
-      | inl end ↦ ap words (drop_all m xs (omega arith))
-      | inr lt ↦ absurd
-          (let at : get_or ys n 0 ≡ get_or xs m 0 = ap (λ k. get_or ys k 0) none ∙ ap (λ zs. get_or zs 0 0) (e ∙ drop-cons xs m 0 lt) in
-          let one = blanks.behind lt in
-          let other = turned_back (is_blank (get_or ys n 0)) (word.behind (rw e (simp length-drop (omega arith)))) in
-          let apart : ◌≡◌ {A = ℕ} 0 1 = unlike (sym one ∙ ap is_blank (sym at) ∙ other) in
-          omega arith)
-    ]
-
-pub first_word : (xs ys : List ℕ) (m n : ℕ) → ys ≡ drop m xs → Leads Blanks xs m → Leads Word ys n → 0 < n
-    → FirstWord xs (take (n - 0) ys) (take (length ys - n) (drop n ys))
-first_word xs ys m n e blanks word pos =
-    record {
-      words_are =
-          words_past_blanks xs m blanks.before
-          ∙ ap words (sym e)
-          ∙ words_cut ys n pos word.within (λ k below. turned (is_blank (get_or ys k 0)) (word.before k below))
-          (λ lt. turned_back (is_blank (get_or ys n 0)) (word.behind lt))
-          ∙ rw (part_to_end ys n, sub-zero n);
-      some = simp length-take (omega (arith, word.within));
-      shorter = rw (part_to_end ys n) (simp length-drop (let s : length ys ≡ length xs - m = ap length e ∙ length-drop m xs in omega (arith, word.within)));
+      words_are = words_past_blanks xs m found.2 ∙ ap words (sym e) ∙ word_in_front ys r some front h;
+      some = simp length-take (omega arith);
+      shorter = simp length-drop (omega arith);
     }

@@ -1,3 +1,1 @@
 pub mod Cutting
-pub mod Appending
-pub mod Running

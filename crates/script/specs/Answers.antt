@@ -1,22 +1,12 @@
 -- The text of an answer, and the answer of the test of circularity.
-use Rattle.std.specs.Prelude.{ℕ, List, [], ◌++◌, Ok, Err, codes, decimal, Result}
-use Rattle.circularity.specs.Faults.{number_of, layer_of, named_by}
+use Rattle.std.specs.Prelude.{ℕ, List, ◌++◌, Ok, Err, codes, decimal, Result}
+use Rattle.circularity.specs.Faults.{number_of, layer_of, named_by, refusal_text}
 use Rattle.circularity.specs.declared.Passes.{Passes as Passed}
 use Rattle.circularity.specs.declared.fault.LanguageFault.{LanguageFault}
-use Rattle.circularity.specs.declared.fault.Layer.{Layer}
-use Rattle.circularity.specs.declared.fault.Layer.TheVariants.{Language, Table, Edit, Reading}
-use Rattle.circularity.specs.declared.fault.Named.{Named}
-use Rattle.circularity.specs.declared.fault.Named.TheVariants.{Nothing, Production, Node}
 use Rattle.script.specs.declared.answer.Answer.{Answer}
 use Rattle.script.specs.declared.answer.Answer.TheVariants.{Done, Passes, Refused, NotAccepted, NoSheet}
 use Rattle.script.specs.declared.call.Reason.{Reason}
 use Rattle.script.specs.declared.call.Reason.TheVariants.{UnknownCall, WrongNumberOfWords, UnknownLanguage, NoLanguage, LanguageChosen}
-
-abbrev pub layer_text : Layer → List ℕ
-layer_text Language = codes "language"
-layer_text Table = codes "table"
-layer_text Edit = codes "edit"
-layer_text Reading = codes "reading"
 
 abbrev pub reason_text : Reason → List ℕ
 reason_text UnknownCall = codes "unknown call"
@@ -25,21 +15,14 @@ reason_text UnknownLanguage = codes "unknown language"
 reason_text NoLanguage = codes "no language chosen"
 reason_text LanguageChosen = codes "language already chosen"
 
--- what a refusal names, with a blank in front
-abbrev pub named_text : Named → List ℕ
-named_text Nothing = []
-named_text (Production p) = codes " production " ++ decimal p
-named_text (Node n) = codes " node " ++ decimal n
-
 abbrev pub answer_text : Answer → List ℕ
 answer_text Done = codes "ok"
 answer_text (Passes relations) = codes "passes " ++ decimal relations
-answer_text (Refused number layer named) =
-    codes "refused " ++ (decimal number ++ (codes " " ++ (layer_text layer ++ named_text named)))
+answer_text (Refused refusal) = refusal_text refusal
 answer_text (NotAccepted reason) = codes "not accepted: " ++ reason_text reason
 answer_text NoSheet = codes "no sheet"
 
 -- A pass says how many relations there are; a fault is refused by its number, its layer and what it names.
 abbrev pub test_answer : Result Passed LanguageFault → Answer
 test_answer (Ok passes) = Passes passes.relations
-test_answer (Err fault) = Refused (number_of fault) (layer_of fault) (named_by fault)
+test_answer (Err fault) = Refused (record { number = number_of fault; layer = layer_of fault; named = named_by fault })

@@ -4,3 +4,4 @@ pub mod Answers
 pub mod Printed
 pub mod Transcript
 pub mod Testing
+pub mod Session

@@ -1,54 +1,48 @@
 -- Which line makes which call.
-use Rattle.std.specs.Prelude.{ℕ, true, false, List, [], ◌∷◌, codes, ◌==◌, slice_index}
+use Rattle.std.specs.Prelude.{ℕ, List, [], ◌∷◌, codes, ◌==◌, if◌then◌else◌, slice_index, Option, Some, None, Result, Ok, Err}
 use Rattle.std.specs.Str.{bytes_eq}
+use Rattle.script.specs.declared.call.LanguageName.{LanguageName}
 use Rattle.script.specs.declared.call.LanguageName.TheVariants.{Formula, Plan, Altered}
+use Rattle.script.specs.declared.call.Call.{Call}
 use Rattle.script.specs.declared.call.Call.TheVariants.{Language, Test}
+use Rattle.script.specs.declared.call.Reason.{Reason}
 use Rattle.script.specs.declared.call.Reason.TheVariants.{UnknownCall, WrongNumberOfWords, UnknownLanguage}
-use Rattle.script.specs.declared.call.Line.{Line}
-use Rattle.script.specs.declared.call.Line.TheVariants.{Passed, Made, NotRead}
 use Rattle.script.specs.Words.{words}
 
 -- the language of a name
-abbrev pub language_named : List ℕ → Line
+abbrev pub language_named : List ℕ → Result LanguageName Reason
 language_named name =
-    elim (bytes_eq name (codes "formula")) [
-      | true ↦ Made (Language Formula)
-      | false ↦ elim (bytes_eq name (codes "plan")) [
-        | true ↦ Made (Language Plan)
-        | false ↦ elim (bytes_eq name (codes "altered")) [
-          | true ↦ Made (Language Altered)
-          | false ↦ NotRead UnknownLanguage
-        ]
-      ]
-    ]
+    if bytes_eq name (codes "formula") then Ok Formula
+    else (if bytes_eq name (codes "plan") then Ok Plan
+    else (if bytes_eq name (codes "altered") then Ok Altered else Err UnknownLanguage))
+
+-- the call that chooses a language
+abbrev pub choice : Result LanguageName Reason → Result Call Reason
+choice (Ok language) = Ok (Language language)
+choice (Err reason) = Err reason
 
 -- the words behind `language`: the name of a language
-abbrev pub language_line : List (List ℕ) → Line
-language_line [] = NotRead WrongNumberOfWords
-language_line (name ∷ []) = language_named name
-language_line (name ∷ more ∷ rest) = NotRead WrongNumberOfWords
+abbrev pub language_call : List (List ℕ) → Result Call Reason
+language_call [] = Err WrongNumberOfWords
+language_call (name ∷ []) = choice (language_named name)
+language_call (name ∷ more ∷ rest) = Err WrongNumberOfWords
 
 -- the words behind `test`: none
-abbrev pub test_line : List (List ℕ) → Line
-test_line [] = Made Test
-test_line (more ∷ rest) = NotRead WrongNumberOfWords
+abbrev pub test_call : List (List ℕ) → Result Call Reason
+test_call [] = Ok Test
+test_call (more ∷ rest) = Err WrongNumberOfWords
 
 -- the first word names the call, and the others are its arguments
-abbrev pub call_line : List ℕ → List (List ℕ) → Line
-call_line name arguments =
-    elim (bytes_eq name (codes "language")) [
-      | true ↦ language_line arguments
-      | false ↦ elim (bytes_eq name (codes "test")) [
-        | true ↦ test_line arguments
-        | false ↦ NotRead UnknownCall
-      ]
-    ]
+abbrev pub call_of : List ℕ → List (List ℕ) → Result Call Reason
+call_of name arguments =
+    if bytes_eq name (codes "language") then language_call arguments
+    else (if bytes_eq name (codes "test") then test_call arguments else Err UnknownCall)
 
 -- A line without words and a comment, whose first word begins with `#`, are passed over.
-abbrev pub words_line : List (List ℕ) → Line
-words_line [] = Passed
-words_line (name ∷ arguments) = elim (slice_index name 0 == 35) [ true ↦ Passed | false ↦ call_line name arguments ]
+abbrev pub words_line : List (List ℕ) → Option (Result Call Reason)
+words_line [] = None
+words_line (name ∷ arguments) = if slice_index name 0 == 35 then None else Some (call_of name arguments)
 
 -- what a line is, by its words alone
-abbrev pub line_of : List ℕ → Line
+abbrev pub line_of : List ℕ → Option (Result Call Reason)
 line_of line = words_line (words line)

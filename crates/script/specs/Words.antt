@@ -1,7 +1,9 @@
 -- The lines of an input, and the words of a line.
-use Rattle.std.specs.Prelude.{◌≡◌, ℕ, ◌<◌, ◌≤◌, Bool, true, false, not, ◌||◌, List, [], ◌∷◌, length, ◌==◌, slice_index}
-use Rattle.script.specs.declared.words.Run.{Run}
-use Rattle.script.specs.declared.words.Run.TheVariants.{Blanks, Word, Line}
+use Rattle.std.specs.Prelude.{◌≡◌, ℕ, ◌<◌, Bool, ◌||◌, List, [], ◌∷◌, length, ◌==◌, true, false, filter, Option, None, Some}
+use Rattle.std.specs.List.{slice_split}
+use denote.Ref.{Bor}
+use Rattle.script.specs.declared.words.Words.{Words}
+use Rattle.script.specs.declared.words.Lines.{Lines}
 
 -- the bytes between words: space, tab and carriage return
 abbrev pub is_blank : ℕ → Bool
@@ -11,42 +13,18 @@ is_blank b = b == 32 || (b == 9 || b == 13)
 abbrev pub is_line_feed : ℕ → Bool
 is_line_feed b = b == 10
 
--- b put in front of the first of the pieces
-abbrev pub begun_with : ℕ → List (List ℕ) → List (List ℕ)
-begun_with b [] = (b ∷ []) ∷ []
-begun_with b (piece ∷ pieces) = (b ∷ piece) ∷ pieces
-
--- The pieces between the bytes that separate, empty ones too: one piece more than there are such bytes.
-abbrev pub pieces : (ℕ → Bool) → List ℕ → List (List ℕ)
-pieces separates [] = [] ∷ []
-pieces separates (b ∷ bytes) =
-    elim (separates b) [ true ↦ [] ∷ pieces separates bytes | false ↦ begun_with b (pieces separates bytes) ]
-
--- the pieces that are not empty
-abbrev pub filled : List (List ℕ) → List (List ℕ)
-filled [] = []
-filled ([] ∷ rest) = filled rest
-filled ((b ∷ piece) ∷ rest) = (b ∷ piece) ∷ filled rest
-
 -- The lines of an input: what stands between its line feeds. What follows the last line feed is a line too, mostly an empty one.
 abbrev pub lines : List ℕ → List (List ℕ)
-lines input = pieces is_line_feed input
+lines input = slice_split is_line_feed input
+
+-- whether a piece of a line is not empty
+abbrev pub has_bytes : List ℕ → Bool
+has_bytes [] = false
+has_bytes (b ∷ piece) = true
 
 -- The words of a line: what stands between its blanks, where that is not empty.
 abbrev pub words : List ℕ → List (List ℕ)
-words line = filled (pieces is_blank line)
-
--- the bytes that a run goes over
-abbrev pub belongs : Run → ℕ → Bool
-belongs Blanks b = is_blank b
-belongs Word b = not (is_blank b)
-belongs Line b = not (is_line_feed b)
-
--- a front of n bytes is a run, and the byte behind it does not belong to the run
-pub record Leads (run : Run) (xs : List ℕ) (n : ℕ) : Type 0 where
-  pub within : n ≤ length xs
-  pub before : (k : ℕ) → k < n → belongs run (slice_index xs k) ≡ true
-  pub behind : n < length xs → belongs run (slice_index xs n) ≡ false
+words line = filter has_bytes (slice_split is_blank line)
 
 -- The first word of a line, and the rest of the line, which has the other words.
 pub record FirstWord (line word rest : List ℕ) : Type 0 where
@@ -58,3 +36,15 @@ pub record FirstWord (line word rest : List ℕ) : Type 0 where
 pub record FirstLine (input line rest : List ℕ) : Type 0 where
   pub lines_are : lines input ≡ line ∷ lines rest
   pub shorter : length rest < length input
+
+-- the words that are left
+abbrev pub words_left : Words → List (List ℕ)
+words_left ws = words ws.rest.now
+
+-- the lines that are left
+abbrev pub lines_from : Option (Bor (List ℕ)) → List (List ℕ)
+lines_from None = []
+lines_from (Some rest) = lines rest.now
+
+abbrev pub lines_left : Lines → List (List ℕ)
+lines_left ls = lines_from ls.rest

@@ -8,5 +8,6 @@ pub mod call;
 pub mod conversation;
 pub mod printing;
 pub mod reading;
+pub mod session;
 pub mod testing;
 pub mod words;

@@ -4,42 +4,32 @@ ghost use Rattle.script.specs.Printed.{echoed, after_arrow, reply};
 ghost use Rattle.script.specs.Words.{words};
 
 use crate::answer::Answer;
-use crate::words::first_word;
-use std::alloc::{AllocError, Global};
+use crate::words::Words;
+use std::alloc::AllocError;
 
 // Prints the words of a line, each with a blank behind it.
 fn print_words(out: &mut Vec<u8>, line: &[u8]) -> Result<(), AllocError>
     ensures { OnOk result (out.new.items ≡ out.old.items ++ echoed (words line.now)) }
 {
-    let mut rest = line;
-    while let Some((word, after)) = first_word(rest) {
+    for word in Words::of(line) {
         out.extend_from_slice(word)?;
         out.push(b' ')?;
-        rest = after;
     }
     Ok(())
 }
 
-fn print_answer(heap: Global, out: &mut Vec<u8>, answer: Answer) -> Result<(), AllocError>
+fn print_answer(out: &mut Vec<u8>, answer: Answer) -> Result<(), AllocError>
     ensures { OnOk result (out.new.items ≡ out.old.items ++ after_arrow answer) }
 {
-    let text = answer.text(heap)?;
-    out.extend_from_slice(b"=> ")?;
+    let text = format!(in *out.allocator(); "=> {answer}\n")?;
     out.extend_from_slice(text.as_bytes())?;
-    out.push(b'\n')?;
     Ok(())
 }
 
 // Prints the line that answers a line of the script.
-pub fn print_reply(
-    heap: Global,
-    out: &mut Vec<u8>,
-    line: &[u8],
-    answer: Answer,
-) -> Result<(), AllocError>
+pub fn print_reply(out: &mut Vec<u8>, line: &[u8], answer: Answer) -> Result<(), AllocError>
     ensures { OnOk result (out.new.items ≡ out.old.items ++ reply (words line.now) answer) }
 {
     print_words(out, line)?;
-    print_answer(heap, out, answer)?;
-    Ok(())
+    print_answer(out, answer)
 }

@@ -1,76 +1,61 @@
 // Reading: which call a line makes.
-ghost use Rattle.std.specs.Prelude.{◌≡◌, [], ◌∷◌, MatchOption};
-ghost use Rattle.std.specs.Str.{bytes_eq};
-ghost use Rattle.script.specs.Reading.{language_named, language_line, test_line, call_line, line_of};
-ghost use Rattle.script.specs.Words.{words};
+ghost use Rattle.std.specs.Prelude.{◌≡◌};
+ghost use Rattle.script.specs.Reading.{language_named, language_call, test_call, call_of, line_of};
+ghost use Rattle.script.specs.Words.{words_left};
 
-use crate::call::{Call, LanguageName, Line, Reason};
-use crate::words::first_word;
+use crate::call::{Call, LanguageName, Reason};
+use crate::words::Words;
 
-// Whether a word has these very bytes.
-fn is(word: &[u8], bytes: &[u8]) -> bool
-    ensures { result ≡ bytes_eq word.now bytes.now }
-{
-    word == bytes
-}
+impl TryFrom<&[u8]> for LanguageName {
+    type Error = Reason;
 
-fn language_named(name: &[u8]) -> Line
-    ensures { result ≡ language_named name.now }
-{
-    if is(name, b"formula") {
-        return Line::Made(Call::Language(LanguageName::Formula));
-    }
-    if is(name, b"plan") {
-        return Line::Made(Call::Language(LanguageName::Plan));
-    }
-    if is(name, b"altered") {
-        return Line::Made(Call::Language(LanguageName::Altered));
-    }
-    Line::NotRead(Reason::UnknownLanguage)
-}
+    ghost try_from_gives = { λ name language. language ≡ language_named name.now };
 
-fn language_line(arguments: &[u8]) -> Line
-    ensures { result ≡ language_line (words arguments.now) }
-{
-    let Some((name, rest)) = first_word(arguments) else {
-        return Line::NotRead(Reason::WrongNumberOfWords);
-    };
-    match first_word(rest) {
-        None => language_named(name),
-        Some(_) => Line::NotRead(Reason::WrongNumberOfWords),
+    fn try_from(name: &[u8]) -> Result<LanguageName, Reason> {
+        match name {
+            b"formula" => Ok(LanguageName::Formula),
+            b"plan" => Ok(LanguageName::Plan),
+            b"altered" => Ok(LanguageName::Altered),
+            _ => Err(Reason::UnknownLanguage),
+        }
     }
 }
 
-fn test_line(arguments: &[u8]) -> Line
-    ensures { result ≡ test_line (words arguments.now) }
+fn language_call(mut arguments: Words) -> Result<Call, Reason>
+    ensures { result ≡ language_call (words_left arguments.entry) }
 {
-    match first_word(arguments) {
-        None => Line::Made(Call::Test),
-        Some(_) => Line::NotRead(Reason::WrongNumberOfWords),
+    match (arguments.next(), arguments.next()) {
+        (Some(name), None) => Ok(Call::Language(name.try_into()?)),
+        _ => Err(Reason::WrongNumberOfWords),
     }
 }
 
-fn call_line(name: &[u8], arguments: &[u8]) -> Line
-    ensures { result ≡ call_line name.now (words arguments.now) }
+fn test_call(mut arguments: Words) -> Result<Call, Reason>
+    ensures { result ≡ test_call (words_left arguments.entry) }
 {
-    if is(name, b"language") {
-        return language_line(arguments);
+    match arguments.next() {
+        None => Ok(Call::Test),
+        Some(_) => Err(Reason::WrongNumberOfWords),
     }
-    if is(name, b"test") {
-        return test_line(arguments);
-    }
-    Line::NotRead(Reason::UnknownCall)
 }
 
-// What a line is: a blank line and a comment are passed over, every other line makes a call or does not.
-pub fn read_line(line: &[u8]) -> Line
+fn call_of(name: &[u8], arguments: Words) -> Result<Call, Reason>
+    ensures { result ≡ call_of name.now (words_left arguments.entry) }
+{
+    match name {
+        b"language" => language_call(arguments),
+        b"test" => test_call(arguments),
+        _ => Err(Reason::UnknownCall),
+    }
+}
+
+// The call that a line makes, or why it makes none; a blank line and a comment are passed over.
+pub fn read_line(line: &[u8]) -> Option<Result<Call, Reason>>
     ensures { result ≡ line_of line.now }
 {
-    let Some((name, arguments)) = first_word(line) else {
-        return Line::Passed;
-    };
-    if name[0] == b'#' {
-        return Line::Passed;
+    let mut words = Words::of(line);
+    match words.next() {
+        None | Some([b'#', ..]) => None,
+        Some(name) => Some(call_of(name, words)),
     }
-    call_line(name, arguments)
 }

@@ -9,5 +9,5 @@ use grammar::Language;
 pub fn tested<L: Language>(language: &L) -> Answer
     ensures { Tested (L.Language.grammar language.now) result }
 {
-    Answer::of_test(test(language))
+    test(language).into()
 }

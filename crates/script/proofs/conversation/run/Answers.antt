@@ -1,13 +1,10 @@
 -- One line more of the script.
-use Rattle.std.proofs.Common.{vec_items, ap, ◌∙◌}
-use Rattle.script.proofs.Running.{left, first_and_left, goes_on}
-use Rattle.script.specs.Words.{lines}
+use Rattle.std.proofs.Common.{◌++◌, refl, append_assoc}
 use Rattle.script.proofs.conversation.run.Goals as goal
 
-pub loop-rest-preserved : goal.loop-rest-preserved
-loop-rest-preserved g c =
+pub loop-line-preserved : goal.loop-line-preserved
+loop-line-preserved g c = λ others t.
     let said = c.in_ok-answer_line.ensures in
-    goes_on g.C.Conversation.answers g.C.Conversation.closing c.args.conversation.now (lines c.args.input.now)
-    c.loop-rest.conversation c.answer_line.new.conversation (vec_items c.loop-rest.out) said.0
-    (vec_items c.answer_line.new.out) c.first_line.result.0.now (left c.loop-rest.rest) (left c.first_line.result.1)
-    (ap left c.in-Some.is ∙ first_and_left c.in-Some.bytes.now _ _ c.first_line.ensures) c.loop-rest.invariant said.2 said.1
+    rw (said.1, append_assoc)
+    (c.loop-line.invariant (said.0 ++ others)
+    (rw c.in-Some.ensures.steps (said.0, others, c.answer_line.new.conversation, said.2, t, refl)))

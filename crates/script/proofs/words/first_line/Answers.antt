@@ -1,10 +1,11 @@
 -- The first line: lemmas on where bytes are cut.
-use Rattle.std.proofs.Common.{arith}
-use Rattle.script.proofs.Cutting.{last_line, first_line}
+use Rattle.std.proofs.Common.{rules}
+use Rattle.script.proofs.Cutting.{whole, first_line}
+use Rattle.script.specs.Words.{is_line_feed}
 use Rattle.script.proofs.words.first_line.Goals as goal
 
-pub returns-then-end-input : goal.returns-then-end-input
-returns-then-end-input c = last_line _ _ c.leading-end.ensures c.if-end-input.true
+pub returns-in-None : goal.returns-in-None
+returns-in-None c = whole is_line_feed c.args.input.now (search rules)
 
-pub returns : goal.returns
-returns c = first_line _ _ c.leading-end.ensures (omega (arith, c.leading-end.ensures.within))
+pub returns-in-Some : goal.returns-in-Some
+returns-in-Some c = first_line c.args.input.now c.in-Some.end (search rules, search rules, search rules)

@@ -1,11 +1,14 @@
 -- The first word: lemmas on where bytes are cut.
-use Rattle.std.proofs.Common.{arith}
-use Rattle.script.proofs.Cutting.{no_word, first_word, part_to_end}
+use Rattle.std.proofs.Common.{rules}
+use Rattle.std.proofs.lemmas.List.{take_rest}
+use Rattle.script.proofs.Cutting.{no_word, first_word}
 use Rattle.script.proofs.words.first_word.Goals as goal
 
-pub returns-then-end-eq0 : goal.returns-then-end-eq0
-returns-then-end-eq0 c =
-    no_word _ _ _ _ (part_to_end c.args.line.now c.leading.result) c.leading.ensures c.leading-end.ensures c.if-end-eq0.true
+pub returns-in_err-start : goal.returns-in_err-start
+returns-in_err-start c = rw c.from_residual.ensures (no_word c.args.line.now (search rules))
 
 pub returns : goal.returns
-returns c = first_word _ _ _ _ (part_to_end c.args.line.now c.leading.result) c.leading.ensures c.leading-end.ensures (omega arith)
+returns c =
+    rw (c.split_at.ensures.front, c.split_at.ensures.back, c.unwrap_or.ensures)
+    (first_word c.args.line.now _ c.in_ok-start.start c.position-end.result (take_rest c.args.line.now c.in_ok-start.start)
+    (search rules, search rules, search rules) (search rules))
