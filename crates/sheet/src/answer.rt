@@ -1,4 +1,5 @@
-// What the calls answer: the handle of the sheet as they leave it, and the clipping that they hand out or hand back.
+// What the calls answer: the handle of the sheet as they leave it, and the clipping that they hand out or hand back. Each call has an answer of its
+// own, though some have the same fields today, so that an answer can gain a field without the others.
 use crate::handle::{Clipping, Open, Settled};
 use edit::EditFault;
 

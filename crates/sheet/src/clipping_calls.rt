@@ -28,7 +28,8 @@ pub fn cut<L: Language>(
     })
 }
 
-// Hangs a clipping in the place of a hole, whose node becomes free.
+// Hangs a clipping in the place of a hole, whose node becomes free. A match and no `map_err`: a closure may not hold the clipping, which has to be
+// spent or handed back on each way.
 pub fn paste<L: Language>(
     language: &L,
     nodes: &mut [Node],
@@ -56,7 +57,7 @@ pub fn paste<L: Language>(
     }
 }
 
-// Hangs a clipping in the place of a subtree, and hands the subtree out as a clipping.
+// Hangs a clipping in the place of a subtree, and hands the subtree out as a clipping. A match, as in paste.
 pub fn exchange<L: Language>(
     language: &L,
     nodes: &mut [Node],

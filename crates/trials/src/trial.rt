@@ -66,12 +66,16 @@ fn changed_records(before: &[Node], after: &[Node]) -> usize {
         .count()
 }
 
-// How many values mean something else than the row that each held before the call.
+// How many values mean something else than the row that each held before the call. A loop: the check has no proof yet of a closure over a row of
+// the language's own type that goes into `filter`.
 fn changed_values<L: Language>(values: &[L::Row], row: L::Row) -> usize {
-    values
-        .iter()
-        .filter(|value| !L::Value::load(**value).same(L::Value::load(row)))
-        .count()
+    let mut count: usize = 0;
+    for value in values {
+        if !L::Value::load(*value).same(L::Value::load(row)) {
+            count = count.saturating_add(1);
+        }
+    }
+    count
 }
 
 // How many entries of a waiting list were written, from one entry on.
