@@ -1,4 +1,4 @@
-// What a session of the editor works in.
+// The editor's sessions: which languages they work in.
 ghost use Rattle.std.specs.Prelude.{◌≡◌};
 ghost use Rattle.editor.specs.Session.{choice, grammar_of};
 
@@ -9,12 +9,14 @@ use script::call::{LanguageName, Reason};
 use script::session::Program;
 use script::testing::tested;
 
+// The languages of the editor.
 #[derive(Clone, Copy, PartialEq, Eq)]
 pub enum Language {
     Formula,
     Plan,
 }
 
+// A language is chosen once, and there is no altered plan.
 pub struct Editor;
 
 impl Program for Editor {

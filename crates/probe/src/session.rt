@@ -1,4 +1,4 @@
-// What a session of the probe works in.
+// The probe's sessions: which languages they work in.
 ghost use Rattle.std.specs.Prelude.{◌≡◌};
 ghost use Rattle.probe.specs.Session.{choice, grammar_of};
 
@@ -9,6 +9,7 @@ use script::call::{LanguageName, Reason};
 use script::session::Program;
 use script::testing::tested;
 
+// A language is chosen once, but that a session goes from the plan to the altered plan and back.
 pub struct Probe;
 
 impl Program for Probe {

@@ -50,7 +50,7 @@ one_word (b ∷ w) rest lt = refl
 pub no_word : (xs : List ℕ) → AllWithin (λ b. is_blank b ≡ true) xs 0 (length xs) → words xs ≡ []
 no_word xs h = words_past_blanks xs (length xs) h ∙ rw (drop_all (length xs) xs (omega arith))
 
--- a blank is no other byte
+-- no test answers both
 apart : (b : Bool) → b ≡ true → b ≡ false → 0 < 0
 apart b one other = absurd (false≢true (sym other ∙ one))
 

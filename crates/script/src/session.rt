@@ -11,13 +11,14 @@ use crate::answer::Answer;
 use crate::call::{Call, LanguageName, Reason};
 use crate::conversation::Conversation;
 
-// A program that works in some of the languages.
+// A program: which languages its sessions work in, and which they go to.
 pub trait Program {
     type Language: Copy;
 
-    // the language that a session works in once a name is asked for, or why it stays as it is
+    // the language that a session works in once a name is asked for, or why it stays where it is
     ghost choice: { Option Self.Language → NameOf → Result Self.Language ReasonOf };
 
+    // the table of each of its languages
     ghost grammar: { Self.Language → Grammar };
 
     fn choose(chosen: Option<Self::Language>, name: LanguageName) -> Result<Self::Language, Reason>
