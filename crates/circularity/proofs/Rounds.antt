@@ -5,7 +5,7 @@ use Rattle.grammar.specs.Text.{Segment}
 use Rattle.grammar.specs.Limits.{Limits}
 use Rattle.grammar.specs.Circularity.{Circular, Culprit, RelationCount}
 use Rattle.circularity.specs.Working.{grown, rounds, found_by, Saturated, counted}
-use Rattle.circularity.proofs.Saturation.{Sound, Closed, sound_rows, grown_rows, grown_more, grown_sound, empty_sound, settled, sum_bound}
+use Rattle.circularity.proofs.Saturation.{Sound, Closed, sound_rows, grown_rows, grown_more, grown_sound, empty_sound, unchanged, settled, sum_bound}
 use Rattle.circularity.proofs.Verdicts.{not_circular, relation_count, culprit, culprit_found}
 
 module _ (g : Grammar) (text : ℕ → List Segment) (lim : Limits g text) where
@@ -17,17 +17,17 @@ module _ (g : Grammar) (text : ℕ → List Segment) (lim : Limits g text) where
   saturated_sound masks s = subst (Sound g) (sym s.made) (rounds_sound s.turns)
 
   pub saturated_closed : (masks : List ℕ) → Saturated g masks → Closed g masks
-  saturated_closed masks s = settled g text lim masks (sound_rows g masks (saturated_sound masks s)) s.still
+  saturated_closed masks s = settled g text lim masks (sound_rows g masks (saturated_sound masks s)) (ap sum s.still)
 
-  -- a round that changes the sum of the sets brings it nearer to its bound
-  pub nearer : (masks masks' : List ℕ) (n : ℕ) → masks ≡ rounds g n → masks' ≡ grown g g.productions masks → (sum masks' ≡ sum masks → ⊥)
+  -- a round that changes the sets brings their sum nearer to its bound
+  pub nearer : (masks masks' : List ℕ) (n : ℕ) → masks ≡ rounds g n → masks' ≡ grown g g.productions masks → (masks' ≡ masks → ⊥)
       → 1048560 - sum masks' < 1048560 - sum masks
   nearer masks masks' n masks-is grown-is differs =
       let sound : Sound g masks = subst (Sound g) (sym masks-is) (rounds_sound n) in
       let rows = grown_rows g text lim masks (sound_rows g masks sound) g.productions (omega arith) in
       let bound : sum masks' ≤ 1048560 = rw grown-is (sum_bound (grown g g.productions masks) rows.count rows.below) in
       let more : sum masks ≤ sum masks' = rw grown-is (grown_more g text lim masks (sound_rows g masks sound) g.productions (omega arith)) in
-      let apart : sum masks' ≡ sum masks → ⊥ = differs in
+      let apart : sum masks' ≡ sum masks → ⊥ = λ e. differs (grown-is ∙ unchanged g text lim masks (sound_rows g masks sound) (ap sum (sym grown-is) ∙ e)) in
       omega arith
 
   pub rounds_length : (masks : List ℕ) (n : ℕ) → masks ≡ rounds g n → length masks ≡ 16

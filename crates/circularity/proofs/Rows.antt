@@ -2,7 +2,6 @@
 use Rattle.std.proofs.Common.{◌≡◌, ℕ, ◌+◌, ◌-◌, ◌*◌, ◌/◌, ◌%◌, ◌^◌, ◌<◌, ◌≤◌, List, length, get_or, sym, ap, ◌∙◌}
 use Rattle.std.proofs.lemmas.Bool.{lt-ltb, le-ltb}
 use Rattle.grammar.specs.Grammar.{Grammar, child, arguments}
-use Rattle.circularity.specs.declared.graph.Choice.{Choice}
 use Rattle.circularity.specs.Bits.{field}
 use Rattle.circularity.proofs.Small.{symbol_asked}
 use Rattle.circularity.specs.Working.{bits_of, chosen, parent_row, child_row, row_of}
@@ -17,7 +16,7 @@ module _ (g : Grammar) (p a : ℕ) where
   pub parent_past : g.inherited (g.symbol p) ≤ a → g.synthesized (g.symbol p) ≤ a - g.inherited (g.symbol p) → parent_row g p a ≡ 0
   parent_past h h' = rw (le-ltb a (g.inherited (g.symbol p)) h, le-ltb (a - g.inherited (g.symbol p)) (g.synthesized (g.symbol p)) h')
 
-module _ (g : Grammar) (p : ℕ) (c : Choice) (k a : ℕ) where
+module _ (g : Grammar) (p : ℕ) (c : List ℕ) (k a : ℕ) where
   pub no_child : length (g.children p) ≤ k → child_row g p c k a ≡ 0
   no_child h = rw (le-ltb k (length (g.children p)) h)
 
@@ -34,7 +33,7 @@ module _ (g : Grammar) (p : ℕ) (c : Choice) (k a : ℕ) where
       rw (lt-ltb k (length (g.children p)) h, le-ltb a (g.inherited (child g p k)) h', le-ltb (a - g.inherited (child g p k)) (g.synthesized (child g p k)) h'')
 
 -- the same by what the questions of a language answer: the children's symbols, and the number of inherited attributes of child k
-module _ (g : Grammar) (p : ℕ) (c : Choice) (k a : ℕ) (symbols : List ℕ) (h : ℕ) (symbols_is : symbols ≡ g.children p)
+module _ (g : Grammar) (p : ℕ) (c : List ℕ) (k a : ℕ) (symbols : List ℕ) (h : ℕ) (symbols_is : symbols ≡ g.children p)
     (h_is : h ≡ g.inherited (get_or symbols k 0)) (inside : k < length symbols) where
   inside_is : k < length (g.children p)
   inside_is = rw (← symbols_is) inside
@@ -60,7 +59,7 @@ module _ (g : Grammar) (p : ℕ) (c : Choice) (k a : ℕ) (symbols : List ℕ) (
       let s_is' : s ≡ g.synthesized (child g p k) = s-is ∙ ap g.synthesized symbol_is in
       sym (child_past g p c k a inside_is (rw (← inherited_is) above) (rw (← inherited_is, ← s_is') past))
 
-module _ (g : Grammar) (p : ℕ) (c : Choice) (v : ℕ) where
+module _ (g : Grammar) (p : ℕ) (c : List ℕ) (v : ℕ) where
   pub row_of_parent : v < 4 → row_of g p c v ≡ parent_row g p v
   row_of_parent h = rw (lt-ltb v 4 h)
 
