@@ -1,10 +1,9 @@
 -- What a production finds, from the sets to choose from, and one production more in a round.
-use Rattle.std.proofs.Common.{◌≡◌, ℕ, ◌+◌, ◌≤◌, Bool, true, false, List, get_or, set, sym, refl, ap, ◌∙◌, ap₂, add-one, arith}
+use Rattle.std.proofs.Common.{◌≡◌, ℕ, ◌+◌, List, get_or, set, sym, refl, ap, ◌∙◌, ap₂, add-one}
 use lib.Bits.{bit_or}
 use Rattle.circularity.specs.declared.graph.Outcome.{Outcome}
-use Rattle.circularity.specs.Bits.{has}
 use Rattle.grammar.specs.Grammar.{Grammar}
-use Rattle.circularity.specs.Working.{joined, gathered, outcome_of, choice, choices_at, found_by, grown}
+use Rattle.circularity.specs.Working.{gathered, outcome_of, choice, choices_at, found_by, grown}
 
 module _ (g : Grammar) (p : ℕ) where
   -- what all relations in three sets give, one set after another

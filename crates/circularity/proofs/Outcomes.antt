@@ -1,6 +1,6 @@
 -- What the outcome of a choice of relations says of a tree: where the chosen relations are those of the trees at the children's places,
 -- the outcome's relation is the whole tree's, and there is a cycle exactly where the tree has one through one of the root's own rules.
-use Rattle.std.proofs.Common.{◌≡◌, ℕ, zero, suc, ◌+◌, ◌-◌, ◌*◌, ◌/◌, ◌%◌, ◌^◌, ◌<◌, ◌≤◌, Bool, T, List, [], length, get_or, ℤ, sym, refl, ap, ◌∙◌, subst, ap₂, inl, inr, mod-lt, arith, pow_pos}
+use Rattle.std.proofs.Common.{◌≡◌, ℕ, ◌+◌, ◌-◌, ◌*◌, ◌/◌, ◌%◌, ◌^◌, ◌<◌, ◌≤◌, Bool, T, List, [], length, get_or, ℤ, sym, refl, ap, ◌∙◌, subst, ap₂, inl, inr, mod-lt, arith, pow_pos}
 use Rattle.std.specs.List.{enumerate_from}
 use Rattle.std.proofs.lemmas.List.{get_or_default}
 use Rattle.std.proofs.lemmas.List.Folds.{Any-from_list_any, list_any_at}

@@ -1,5 +1,5 @@
 -- What rounds from nothing give, and that they come to an end.
-use Rattle.std.proofs.Common.{◌≡◌, ℕ, zero, suc, ◌-◌, ◌<◌, ◌≤◌, T, List, length, sum, sym, ap, ◌∙◌, subst, arith}
+use Rattle.std.proofs.Common.{◌≡◌, ℕ, zero, suc, ◌-◌, ◌<◌, ◌≤◌, T, List, sum, sym, ap, ◌∙◌, subst, arith}
 use Rattle.grammar.specs.Grammar.{Grammar}
 use Rattle.grammar.specs.Text.{Segment}
 use Rattle.grammar.specs.Limits.{Limits}
@@ -29,9 +29,6 @@ module _ (g : Grammar) (text : ℕ → List Segment) (lim : Limits g text) where
       let more : sum masks ≤ sum masks' = rw grown-is (grown_more g text lim masks (sound_rows g masks sound) g.productions (omega arith)) in
       let apart : sum masks' ≡ sum masks → ⊥ = λ e. differs (grown-is ∙ unchanged g text lim masks (sound_rows g masks sound) (ap sum (sym grown-is) ∙ e)) in
       omega arith
-
-  pub rounds_length : (masks : List ℕ) (n : ℕ) → masks ≡ rounds g n → length masks ≡ 16
-  rounds_length masks n e = ap length e ∙ (rounds_sound n).count
 
   -- the verdicts from saturated sets
   pub saturated_passes : (masks : List ℕ) → Saturated g masks → ((p : ℕ) → p < g.productions → T (found_by g p masks).cyclic → ⊥)

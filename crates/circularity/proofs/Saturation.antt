@@ -96,9 +96,6 @@ module _ (g : Grammar) (text : ℕ → List Segment) (lim : Limits g text) where
   pub grown_length : (masks : List ℕ) → Rows masks → (n : ℕ) → n ≤ g.productions → length (grown g n masks) ≡ 16
   grown_length masks rows n fits = (grown_rows masks rows n fits).count
 
-  pub grown_below : (masks : List ℕ) → Rows masks → (n : ℕ) → n ≤ g.productions → (s : ℕ) → get_or (grown g n masks) s 0 < 2 ^ 16
-  grown_below masks rows n fits = (grown_rows masks rows n fits).below
-
   -- the sum of the sets never falls
   pub grown_more : (masks : List ℕ) → Rows masks → (n : ℕ) → n ≤ g.productions → sum masks ≤ sum (grown g n masks)
   grown_more masks rows zero fits = omega arith

@@ -1,6 +1,6 @@
 -- What the inner functions of the test compute, as functions of the table: one production's local graph, its closure, and the relations found so far.
 -- Nobody has to believe this file to read the test's contract, which speaks of trees alone.
-use Rattle.std.specs.Prelude.{◌≡◌, ℕ, zero, suc, ◌+◌, ◌-◌, ◌*◌, ◌/◌, ◌%◌, ◌^◌, Bool, true, false, cond, ◌||◌, List, [], ◌∷◌, map, length, replicate, fold, bit_or, count_ones, take, sum_by, nat_lt, slice_index, slice_set}
+use Rattle.std.specs.Prelude.{◌≡◌, ℕ, zero, suc, ◌+◌, ◌-◌, ◌*◌, ◌/◌, ◌%◌, ◌^◌, ◌<◌, ◌≤◌, Bool, true, false, cond, ◌||◌, Option, Some, None, List, [], ◌∷◌, map, length, replicate, fold, bit_or, count_ones, take, sum_by, nat_lt, slice_index, slice_set}
 use Rattle.std.specs.List.{range_with_len, enumerate_from, list_any}
 use Rattle.grammar.specs.declared.language.Occurrence.{Occurrence}
 use Rattle.grammar.specs.Grammar.{Grammar, child, arguments}
@@ -80,6 +80,11 @@ gathered_below f set (suc n) = joined_if (has set n) (gathered_below f set n) (f
 -- what all relations in a set give, joined
 unfoldable pub gathered : (ℕ → Outcome) → ℕ → Outcome
 gathered f set = gathered_below f set 16
+
+-- what is known of child k, counted from 0: its symbol, or that there is no such child
+abbrev pub ChildAt : Grammar → ℕ → ℕ → Option ℕ → Type 0
+ChildAt g p k (Some s) = (k < length (g.children p)) × (s ≡ child g p k)
+ChildAt g p k None = length (g.children p) ≤ k
 
 -- the set of relations to choose from at child place k: those found for the child's symbol, or the empty relation alone where there is no child
 abbrev pub choices_at : Grammar → ℕ → List ℕ → ℕ → ℕ

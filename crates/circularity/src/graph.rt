@@ -1,9 +1,9 @@
 // One production's local graph: the attributes at its places, with an edge from each to those that it waits on directly,
 // or, at a child, by the relation that is chosen for the child's tree. There are at most 16 vertices, so a row of edges is a 16-bit number.
-ghost use Rattle.std.specs.Prelude.{◌≡◌, ℕ, ◌+◌, ◌*◌, ◌/◌, ◌%◌, ◌^◌, ◌<◌, ◌≤◌, true, false, bit_or, slice_index, length, MatchOption};
-ghost use Rattle.grammar.specs.Grammar.{Grammar, child};
+ghost use Rattle.std.specs.Prelude.{◌≡◌, ℕ, ◌+◌, ◌*◌, ◌/◌, ◌%◌, ◌^◌, ◌<◌, ◌≤◌, true, false, bit_or, slice_index};
+ghost use Rattle.grammar.specs.Grammar.{Grammar};
 ghost use Rattle.circularity.specs.Bits.{has as has_bit, through as taken_through, closed_below, field};
-ghost use Rattle.circularity.specs.Working.{vertex as vertex_of, bits_of, parent_row, child_row, row_of, rows_of, has_cycle as has_a_cycle, relation_in, outcome_of};
+ghost use Rattle.circularity.specs.Working.{vertex as vertex_of, bits_of, parent_row, child_row, row_of, rows_of, has_cycle as has_a_cycle, relation_in, outcome_of, ChildAt};
 
 use grammar::{Language, Occurrence};
 use std::array;
@@ -13,7 +13,7 @@ pub(crate) type Choice = [u16; 3];
 
 // What choices of the children's relations give: the relations of the production's trees, as a set of bits, and whether there is a cycle.
 #[derive(Clone, Copy)]
-pub struct Outcome {
+pub(crate) struct Outcome {
     pub relations: u16,
     pub cyclic: bool,
 }
@@ -45,7 +45,8 @@ fn argument_bits(arguments: &[Occurrence]) -> u16
 
 // The inherited attributes on which synthesized attribute number j depends by a relation over h inherited ones.
 fn relation_field(relation: u16, h: u8, j: u8) -> u16
-    requires { (h ≤ 4) × (j < 4) }
+    requires inherited { h ≤ 4 }
+    requires synthesized { j < 4 }
     ensures { result ≡ field h relation j }
 {
     (relation >> (h * j)) % (1 << h)
@@ -98,7 +99,7 @@ impl Graph {
     {
         let mut relation = 0u16;
         for j in 0..s {
-            relation |= (self.rows[(h + j) as usize] % (1 << h)) << (h * j);
+            relation |= (self.rows[usize::from(h + j)] % (1 << h)) << (h * j);
         }
         relation
     }
@@ -113,6 +114,7 @@ pub(crate) struct Production<'a, L: Language> {
 }
 
 impl<'a, L: Language> Production<'a, L> {
+    #[tactic(auto, using(crate::proofs::Small::own_symbol))]
     pub(crate) fn symbol(&self) -> u8
         ensures value { result ≡ (L.grammar self.now.language.now).symbol self.now.number }
         ensures bound { result < 16 }
@@ -122,7 +124,7 @@ impl<'a, L: Language> Production<'a, L> {
 
     // The symbol of child k, counted from 0, where there is such a child.
     pub(crate) fn child(&self, k: u8) -> Option<u8>
-        ensures { MatchOption result (length ((L.grammar self.now.language.now).children self.now.number) ≤ k) (λ symbol. (k < length ((L.grammar self.now.language.now).children self.now.number)) × (symbol ≡ child (L.grammar self.now.language.now) self.now.number k)) }
+        ensures { ChildAt (L.grammar self.now.language.now) self.now.number k result }
     {
         let children = self.language.children(self.number);
         children.get(usize::from(k)).copied()
@@ -147,7 +149,8 @@ impl<'a, L: Language> Production<'a, L> {
     // The edges from an attribute at child place k: to the arguments of its rule, if it is inherited; if it is synthesized, to the inherited
     // attributes on which it depends by the relation chosen for the child's tree.
     fn child_edges(&self, choice: Choice, k: u8, attribute: u8) -> u16
-        requires { (k < 3) × (attribute < 4) }
+        requires place { k < 3 }
+        requires attribute { attribute < 4 }
         ensures { result ≡ child_row (L.grammar self.now.language.now) self.now.number choice k attribute }
     {
         let Some(symbol) = self.child(k) else {
@@ -164,8 +167,7 @@ impl<'a, L: Language> Production<'a, L> {
         if attribute - inherited >= self.language.synthesized(symbol) {
             return 0;
         }
-        let depended_on =
-            relation_field(choice[usize::from(k)], inherited, attribute - inherited);
+        let depended_on = relation_field(choice[usize::from(k)], inherited, attribute - inherited);
         depended_on << (4 * (k + 1))
     }
 

@@ -18,7 +18,7 @@ impl Outcome {
     {
         Outcome {
             relations: self.relations | other.relations,
-            cyclic: self.cyclic | other.cyclic,
+            cyclic: self.cyclic || other.cyclic,
         }
     }
 }

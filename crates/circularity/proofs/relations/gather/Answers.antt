@@ -6,5 +6,5 @@ pub returns : goal.returns
 unfolding gathered
 returns g c =
     λ f gives.
-        let all : c.loop-relation.relation ≡ 16 = omega arith in
-        subst (λ n. c.loop-relation.found ≡ gathered_below f c.args.set n) all (c.loop-relation.invariant f gives)
+    let all : c.loop-relation.relation ≡ 16 = omega arith in
+    subst (λ n. c.loop-relation.found ≡ gathered_below f c.args.set n) all (c.loop-relation.invariant f gives)

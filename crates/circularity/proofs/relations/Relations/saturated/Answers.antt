@@ -1,5 +1,5 @@
-use Rattle.std.proofs.Common.{◌≡◌, suc, sym, ap, ◌∙◌, rules}
-use Rattle.circularity.specs.Working.{grown, rounds}
+use Rattle.std.proofs.Common.{◌≡◌, suc, ap, ◌∙◌, rules}
+use Rattle.circularity.specs.Working.{grown}
 use Rattle.circularity.proofs.Rounds.{nearer}
 use Rattle.circularity.proofs.relations.Relations.saturated.Goals as goal
 
