@@ -3,20 +3,20 @@ use Rattle.std.proofs.Common.{◌≡◌, ℕ, ◌+◌, List, get_or, set, sym, r
 use lib.Bits.{bit_or}
 use Rattle.circularity.specs.declared.graph.Outcome.{Outcome}
 use Rattle.grammar.specs.Grammar.{Grammar}
-use Rattle.circularity.specs.Working.{gathered, outcome_of, choice, choices_at, found_by, grown}
+use Rattle.circularity.specs.Working.{gathered, outcome, choice, choices_at, found_by, grown}
 
 module _ (g : Grammar) (p : ℕ) where
   -- what all relations in three sets give, one set after another
   abbrev pub found_in : ℕ → ℕ → ℕ → Outcome
-  found_in firsts seconds thirds = gathered (λ x. gathered (λ y. gathered (λ z. outcome_of g p (choice x y z)) thirds) seconds) firsts
+  found_in firsts seconds thirds = gathered (λ x. gathered (λ y. gathered (λ z. outcome g p (choice x y z)) thirds) seconds) firsts
 
   found_there : (masks : List ℕ) → found_in (choices_at g p masks 0) (choices_at g p masks 1) (choices_at g p masks 2) ≡ found_by g p masks
-  unfolding gathered
+  unfolding gathered outcome
   found_there masks = refl
 
   pub found_from : (masks : List ℕ) (firsts seconds thirds : ℕ)
       → firsts ≡ choices_at g p masks 0 → seconds ≡ choices_at g p masks 1 → thirds ≡ choices_at g p masks 2
-      → gathered (λ x. gathered (λ y. gathered (λ z. outcome_of g p (choice x y z)) thirds) seconds) firsts ≡ found_by g p masks
+      → gathered (λ x. gathered (λ y. gathered (λ z. outcome g p (choice x y z)) thirds) seconds) firsts ≡ found_by g p masks
   found_from masks firsts seconds thirds e₁ e₂ e₃ =
       ap (λ s. found_in s seconds thirds) e₁ ∙ ap (λ s. found_in (choices_at g p masks 0) s thirds) e₂
       ∙ ap (found_in (choices_at g p masks 0) (choices_at g p masks 1)) e₃ ∙ found_there masks

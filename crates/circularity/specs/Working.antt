@@ -61,6 +61,10 @@ outcome_of_closed g p rows = record {
 abbrev pub outcome_of : Grammar → ℕ → List ℕ → Outcome
 outcome_of g p c = outcome_of_closed g p (closed_below 16 (rows_of g p c))
 
+-- the same, as a word that a proof opens by name alone, since what it unfolds to is long
+unfoldable pub outcome : Grammar → ℕ → List ℕ → Outcome
+outcome g p c = outcome_of g p c
+
 abbrev pub nothing_found : Outcome
 nothing_found = record { relations = 0; cyclic = false }
 
@@ -77,7 +81,7 @@ abbrev pub gathered_below : (ℕ → Outcome) → ℕ → ℕ → Outcome
 gathered_below f set zero = nothing_found
 gathered_below f set (suc n) = joined_if (has set n) (gathered_below f set n) (f n)
 
--- what all relations in a set give, joined
+-- what all relations in a set give, joined; again a word that a proof opens by name alone
 unfoldable pub gathered : (ℕ → Outcome) → ℕ → Outcome
 gathered f set = gathered_below f set 16
 

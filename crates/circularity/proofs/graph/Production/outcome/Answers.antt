@@ -1,10 +1,11 @@
 use Rattle.std.proofs.Common.{◌≡◌, ◌*◌, ◌%◌, ◌^◌, ap, ◌∙◌, ap₂}
 use Rattle.circularity.specs.declared.graph.Outcome.{Outcome}
 use Rattle.circularity.specs.Bits.{closed_below}
-use Rattle.circularity.specs.Working.{relation_in, rows_of, has_cycle}
+use Rattle.circularity.specs.Working.{relation_in, rows_of, has_cycle, outcome}
 use Rattle.circularity.proofs.graph.Production.outcome.Goals as goal
 
 pub returns : goal.returns
+unfolding outcome
 returns g c =
     let gr = g.L.Language.grammar c.args.self.now.language.now in
     let p = c.args.self.now.number in
