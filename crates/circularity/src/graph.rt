@@ -18,20 +18,20 @@ pub(crate) struct Outcome {
     pub cyclic: bool,
 }
 
-// Whether bit j is set.
-pub(crate) fn has(bits: u16, j: usize) -> bool
-    requires { j < 16 }
-    ensures { result ≡ has_bit bits j }
+// Whether a bit is set.
+pub(crate) fn has(bits: u16, bit: usize) -> bool
+    requires { bit < 16 }
+    ensures { result ≡ has_bit bits bit }
 {
-    (bits >> j) % 2 == 1
+    (bits >> bit) % 2 == 1
 }
 
 // The vertex of an occurrence. Places and attributes of a language are below 4.
-fn vertex(o: Occurrence) -> u32
-    ensures value { result ≡ vertex_of o.place o.attribute }
+fn vertex(occurrence: Occurrence) -> u32
+    ensures value { result ≡ vertex_of occurrence.place occurrence.attribute }
     ensures bound { result < 16 }
 {
-    4 * u32::from(o.place % 4) + u32::from(o.attribute % 4)
+    4 * u32::from(occurrence.place % 4) + u32::from(occurrence.attribute % 4)
 }
 
 // The vertices of a rule's arguments, as a set of bits.
@@ -43,13 +43,13 @@ fn argument_bits(arguments: &[Occurrence]) -> u16
         .fold(0, |row, argument| row | 1 << vertex(*argument))
 }
 
-// The inherited attributes on which synthesized attribute number j depends by a relation over h inherited ones.
-fn relation_field(relation: u16, h: u8, j: u8) -> u16
-    requires inherited { h ≤ 4 }
-    requires synthesized { j < 4 }
-    ensures { result ≡ field h relation j }
+// The inherited attributes on which the synthesized attribute of a number depends by a relation over some inherited ones.
+fn relation_field(relation: u16, inherited: u8, number: u8) -> u16
+    requires few { inherited ≤ 4 }
+    requires small { number < 4 }
+    ensures { result ≡ field inherited relation number }
 {
-    (relation >> (h * j)) % (1 << h)
+    (relation >> (inherited * number)) % (1 << inherited)
 }
 
 // A graph: for each vertex the row of its edges.
@@ -59,19 +59,23 @@ struct Graph {
 }
 
 impl Graph {
-    // Every row that has an edge to vertex m takes over m's edges.
+    // Every row that has an edge to a vertex takes over that vertex's edges.
     #[tactic(auto, using(crate::proofs::Turns::through_nothing))]
-    fn go_through(&mut self, m: usize)
-        requires { m < 16 }
-        ensures { self.new.rows ≡ taken_through m self.old.rows }
+    fn go_through(&mut self, vertex: usize)
+        requires { vertex < 16 }
+        ensures { self.new.rows ≡ taken_through vertex self.old.rows }
     {
-        let edges = self.rows[m];
+        let edges = self.rows[vertex];
         if edges == 0 {
             return;
         }
         // In place: an array's map takes twice the time.
         for row in &mut self.rows {
-            *row = if has(*row, m) { *row | edges } else { *row };
+            *row = if has(*row, vertex) {
+                *row | edges
+            } else {
+                *row
+            };
         }
     }
 
@@ -79,8 +83,8 @@ impl Graph {
     fn close(&mut self)
         ensures { self.new.rows ≡ closed_below 16 self.old.rows }
     {
-        for m in 0..16usize {
-            self.go_through(m);
+        for vertex in 0..16usize {
+            self.go_through(vertex);
         }
     }
 
@@ -88,19 +92,23 @@ impl Graph {
     fn has_cycle(&self) -> bool
         ensures { result ≡ has_a_cycle self.now.rows }
     {
-        self.rows.iter().enumerate().any(|(v, row)| has(*row, v))
+        self.rows
+            .iter()
+            .enumerate()
+            .any(|(vertex, row)| has(*row, vertex))
     }
 
-    // The relation that the graph, once closed, gives the production's own symbol, with h inherited and s synthesized attributes.
+    // The relation that the graph, once closed, gives the production's own symbol, by the numbers of its inherited and synthesized attributes.
     #[tactic(auto, using(crate::proofs::Small::relation_below))]
-    fn own_relation(&self, h: u8, s: u8) -> u16
-        requires { h + s ≤ 4 }
-        ensures value { result ≡ relation_in self.now.rows h s }
+    fn own_relation(&self, inherited: u8, synthesized: u8) -> u16
+        requires { inherited + synthesized ≤ 4 }
+        ensures value { result ≡ relation_in self.now.rows inherited synthesized }
         ensures bound { result < 16 }
     {
         let mut relation = 0u16;
-        for j in 0..s {
-            relation |= (self.rows[usize::from(h + j)] % (1 << h)) << (h * j);
+        for number in 0..synthesized {
+            let row = self.rows[usize::from(inherited + number)];
+            relation |= (row % (1 << inherited)) << (inherited * number);
         }
         relation
     }
@@ -115,6 +123,7 @@ pub(crate) struct Production<'a, L: Language> {
 }
 
 impl<'a, L: Language> Production<'a, L> {
+    // The production's own symbol.
     #[tactic(auto, using(crate::proofs::Small::own_symbol))]
     pub(crate) fn symbol(&self) -> u8
         ensures value { result ≡ (L.grammar self.now.language.now).symbol self.now.number }
@@ -123,12 +132,12 @@ impl<'a, L: Language> Production<'a, L> {
         self.language.symbol(self.number)
     }
 
-    // The symbol of child k, counted from 0, where there is such a child.
-    pub(crate) fn child(&self, k: u8) -> Option<u8>
-        ensures { ChildAt (L.grammar self.now.language.now) self.now.number k result }
+    // The symbol of the child at an index, counted from 0, where there is such a child.
+    pub(crate) fn child(&self, index: u8) -> Option<u8>
+        ensures { ChildAt (L.grammar self.now.language.now) self.now.number index result }
     {
         let children = self.language.children(self.number);
-        children.get(usize::from(k)).copied()
+        children.get(usize::from(index)).copied()
     }
 
     // The edges from an attribute of the production's own symbol: to the arguments of its rule, if it is synthesized.
@@ -147,20 +156,20 @@ impl<'a, L: Language> Production<'a, L> {
         argument_bits(self.language.arguments(self.number, own))
     }
 
-    // The edges from an attribute at child place k: to the arguments of its rule, if it is inherited; if it is synthesized, to the inherited
+    // The edges from an attribute of the child at an index: to the arguments of its rule, if it is inherited; if it is synthesized, to the inherited
     // attributes on which it depends by the relation chosen for the child's tree.
-    fn child_edges(&self, choice: Choice, k: u8, attribute: u8) -> u16
-        requires place { k < 3 }
-        requires attribute { attribute < 4 }
-        ensures { result ≡ child_row (L.grammar self.now.language.now) self.now.number choice k attribute }
+    fn child_edges(&self, choice: Choice, index: u8, attribute: u8) -> u16
+        requires three { index < 3 }
+        requires few { attribute < 4 }
+        ensures { result ≡ child_row (L.grammar self.now.language.now) self.now.number choice index attribute }
     {
-        let Some(symbol) = self.child(k) else {
+        let Some(symbol) = self.child(index) else {
             return 0;
         };
         let inherited = self.language.inherited(symbol);
         if attribute < inherited {
             let given = Occurrence {
-                place: k + 1,
+                place: index + 1,
                 attribute,
             };
             return argument_bits(self.language.arguments(self.number, given));
@@ -168,17 +177,21 @@ impl<'a, L: Language> Production<'a, L> {
         if attribute - inherited >= self.language.synthesized(symbol) {
             return 0;
         }
-        let depended_on = relation_field(choice[usize::from(k)], inherited, attribute - inherited);
-        depended_on << (4 * (k + 1))
+        let depended_on = relation_field(
+            choice[usize::from(index)],
+            inherited,
+            attribute - inherited,
+        );
+        depended_on << (4 * (index + 1))
     }
 
-    // The edges from vertex v.
-    fn edges(&self, choice: Choice, v: usize) -> u16
-        requires { v < 16 }
-        ensures { result ≡ row_of (L.grammar self.now.language.now) self.now.number choice v }
+    // The edges from a vertex.
+    fn edges(&self, choice: Choice, vertex: usize) -> u16
+        requires { vertex < 16 }
+        ensures { result ≡ row_of (L.grammar self.now.language.now) self.now.number choice vertex }
     {
-        let place = (v / 4) as u8;
-        let attribute = (v % 4) as u8;
+        let place = (vertex / 4) as u8;
+        let attribute = (vertex % 4) as u8;
         if place == 0 {
             self.own_edges(attribute)
         } else {
@@ -191,7 +204,7 @@ impl<'a, L: Language> Production<'a, L> {
         ensures { result.rows ≡ rows_of (L.grammar self.now.language.now) self.now.number choice }
     {
         Graph {
-            rows: array::from_fn(|v| self.edges(choice, v)),
+            rows: array::from_fn(|vertex| self.edges(choice, vertex)),
         }
     }
 

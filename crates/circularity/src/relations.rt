@@ -8,11 +8,13 @@ use crate::graph::{Outcome, Production, has};
 use grammar::Language;
 
 impl Outcome {
+    // No relation and no cycle.
     const NOTHING: Outcome = Outcome {
         relations: 0,
         cyclic: false,
     };
 
+    // What two outcomes give together.
     fn join(self, other: Outcome) -> Outcome
         ensures { result ≡ joined self other }
     {
@@ -44,13 +46,14 @@ pub(crate) struct Relations {
 }
 
 impl Relations {
+    // No relation found for any symbol.
     const NONE: Relations = Relations { masks: [0; 16] };
 
-    // The relations to choose from at child place k of a production; the empty one alone where there is no child.
-    fn choices<L: Language>(&self, production: &Production<'_, L>, k: u8) -> u16
-        ensures { result ≡ choices_at (L.grammar production.now.language.now) production.now.number self.now.masks k }
+    // The relations to choose from for the child at an index of a production; the empty one alone where there is no child.
+    fn choices<L: Language>(&self, production: &Production<'_, L>, index: u8) -> u16
+        ensures { result ≡ choices_at (L.grammar production.now.language.now) production.now.number self.now.masks index }
     {
-        match production.child(k) {
+        match production.child(index) {
             Some(symbol) => self.masks[usize::from(symbol)],
             None => 1,
         }

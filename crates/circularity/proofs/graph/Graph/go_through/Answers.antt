@@ -11,6 +11,6 @@ loop-row-preserved c =
     let rows = c.loop-row.row-items in
     let i = c.loop-row.row-index in
     let row = get_or rows i 0 in
-    let here : c.if-has.row ≡ taken start c.args.m row = elim c.if-has.branch [ then-has w ↦ search rules | else-has w ↦ search rules ] in
+    let here : c.if-has.row ≡ taken start c.args.vertex row = elim c.if-has.branch [ then-has w ↦ search rules | else-has w ↦ search rules ] in
     ap (set rows i) here
-    ∙ map_over_more (taken start c.args.m) start rows i row (search rules) c.loop-row.invariant (get_or_default rows i 0 row (search rules))
+    ∙ map_over_more (taken start c.args.vertex) start rows i row (search rules) c.loop-row.invariant (get_or_default rows i 0 row (search rules))
