@@ -4,7 +4,7 @@ use native.Mathlib.Nat.{div-eq_of_lt, div_self}
 use lib.Bits.{bit_or, or_shr, or_mod, or_lt, or_add_and, and_le_r, shifted_even}
 use lib.Pow.{shl-shr, field, mod-mod-pow}
 use Rattle.std.proofs.lemmas.Nat.{one_shl}
-use Rattle.std.proofs.lemmas.Bool.{cases_lt, cases_eq, eq-eqb, ne_eqb, true≢false}
+use Rattle.std.proofs.lemmas.Bool.{cases_lt, true≢false}
 use Rattle.circularity.specs.Bits.{has, with_bit}
 
 -- ---- tests
@@ -143,13 +143,6 @@ has_power_only k j t =
     let s = shl_has 1 k j (subst (λ (y : ℕ). T (has y j)) e t) in
     let b : s.0 < 1 = has_below 1 1 s.0 (lit< tt) s.2 in
     omega (arith, s.1)
-
-pub has_power : (k j : ℕ) → has (2 ^ k) j ≡ eqb k j
-has_power k j =
-    elim (cases_eq k j) [
-      | inl e ↦ subst (λ (x : ℕ). has (2 ^ k) x ≡ true) e (true_T (has (2 ^ k) k) (power_has k)) ∙ sym (eq-eqb k j e)
-      | inr n ↦ false_T (has (2 ^ k) j) (λ t. n (has_power_only k j t)) ∙ sym (ne_eqb k j n)
-    ]
 
 -- ---- a number with one more bit
 

@@ -6,7 +6,7 @@ use Rattle.std.proofs.lemmas.Bool.{cases_lt}
 use Rattle.grammar.specs.Dependence.{Over, one, then}
 use Rattle.circularity.proofs.Local.{over_trans}
 use Rattle.circularity.specs.Bits.{has, through, closed_below}
-use Rattle.circularity.proofs.Bits.{T_false, has_zero, has_below, or_has, or_has_left, or_has_right}
+use Rattle.circularity.proofs.Bits.{T_false, has_zero, or_has, or_has_left, or_has_right}
 
 -- sixteen rows of sixteen bits
 pub record Rows (rows : List ℕ) : Type 0 where
@@ -25,9 +25,6 @@ edge_from rows r v w e =
           absurd (T_false (has 0 w) (has_zero w)
           (subst (λ (x : ℕ). T (has x w)) (get_or_past rows v 0 (omega (arith, r.count))) e))
     ]
-
-pub edge_to : (rows : List ℕ) → Rows rows → (v w : ℕ) → Edge rows v w → w < 16
-edge_to rows r v w e = has_below 16 (get_or rows v 0) w (r.below v) e
 
 -- ---- one row in one turn: s is the row of the vertex that the turn goes through
 

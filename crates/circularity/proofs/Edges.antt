@@ -8,7 +8,6 @@ use Rattle.grammar.specs.Text.{Segment}
 use Rattle.grammar.specs.Grammar.{Grammar, attributes, child, Occurs, Given, Among, arguments}
 use Rattle.grammar.specs.Limits.{Limits}
 use Rattle.grammar.specs.Dependence.{Instance, instance, at_root, WaitsBy, Over, one, then}
-use Rattle.circularity.specs.declared.graph.Choice.{Choice}
 use Rattle.circularity.specs.Bits.{has, with_bit, field}
 use Rattle.circularity.specs.Working.{vertex, bits_of, chosen, parent_row, child_row, row_of, rows_of}
 use Rattle.circularity.proofs.Bits.{T_false, has_zero, has_with_bit, with_bit_keeps, with_bit_sets, with_bit_below, has_shifted, shifted_has, shifted_below}
@@ -100,11 +99,11 @@ bits_below os = added_below os 0 (lit< tt)
 
 -- ---- the rows by place and attribute
 
-abbrev pub row_at : Grammar → ℕ → Choice → ℕ → ℕ → ℕ
+abbrev pub row_at : Grammar → ℕ → List ℕ → ℕ → ℕ → ℕ
 row_at g p c zero a = parent_row g p a
 row_at g p c (suc k) a = child_row g p c k a
 
-row_of_vertex : (g : Grammar) (p : ℕ) (c : Choice) (i a : ℕ) → a < 4 → row_of g p c (4 * i + a) ≡ row_at g p c i a
+row_of_vertex : (g : Grammar) (p : ℕ) (c : List ℕ) (i a : ℕ) → a < 4 → row_of g p c (4 * i + a) ≡ row_at g p c i a
 row_of_vertex g p c zero a few =
     let e : 4 * 0 + a ≡ a = omega arith in
     rw (e, lt-ltb a 4 few)
@@ -115,28 +114,28 @@ row_of_vertex g p c (suc k) a few =
     rw (le-ltb (4 * suc k + a) 4 past, k_is, a_is)
 
 -- the row of a vertex is that of its place and attribute
-pub row_is : (g : Grammar) (p : ℕ) (c : Choice) (v : ℕ) → v < 16 → get_or (rows_of g p c) v 0 ≡ row_at g p c (v / 4) (v % 4)
+pub row_is : (g : Grammar) (p : ℕ) (c : List ℕ) (v : ℕ) → v < 16 → get_or (rows_of g p c) v 0 ≡ row_at g p c (v / 4) (v % 4)
 row_is g p c v l =
     let e : 4 * (v / 4) + v % 4 ≡ v = omega arith in
     get_or-map-range_with_len (row_of g p c) 0 16 v v 0 l (omega arith)
     ∙ ap (row_of g p c) (sym e)
     ∙ row_of_vertex g p c (v / 4) (v % 4) (omega arith)
 
-pub row_of_place : (g : Grammar) (p : ℕ) (c : Choice) (i a : ℕ) → i < 4 → a < 4 → get_or (rows_of g p c) (vertex i a) 0 ≡ row_at g p c i a
+pub row_of_place : (g : Grammar) (p : ℕ) (c : List ℕ) (i a : ℕ) → i < 4 → a < 4 → get_or (rows_of g p c) (vertex i a) 0 ≡ row_at g p c i a
 row_of_place g p c i a small few =
     let i_is : vertex i a / 4 ≡ i = omega arith in
     let a_is : vertex i a % 4 ≡ a = omega arith in
     row_is g p c (vertex i a) (vertex_below i a) ∙ ap₂ (row_at g p c) i_is a_is
 
 -- the relations at the children's places that a choice names
-abbrev pub Chosen : Grammar → ℕ → Choice → ℕ → ℕ → ℕ → Type 0
+abbrev pub Chosen : Grammar → ℕ → List ℕ → ℕ → ℕ → ℕ → Type 0
 Chosen g p c k b a = T (has (field (g.inherited (child g p k)) (chosen c k) (a - g.inherited (child g p k))) b)
 
 pub given_occurs : (g : Grammar) (p i a : ℕ) → Given g p i a → Occurs g p i a
 given_occurs g p zero a h = h.1
 given_occurs g p (suc k) a h = (h.0, omega (arith, h.1))
 
-row_below : (g : Grammar) (p : ℕ) (c : Choice) (i a : ℕ) → row_at g p c i a < 2 ^ 16
+row_below : (g : Grammar) (p : ℕ) (c : List ℕ) (i a : ℕ) → row_at g p c i a < 2 ^ 16
 row_below g p c zero a =
     let h = g.inherited (g.symbol p) in
     let Below : ℕ → Type 0 = λ x. x < 2 ^ 16 in
@@ -156,7 +155,7 @@ row_below g p c (suc k) a =
     cond_both (ltb (a - h) s) related 0 Below (λ e''. shifted_below (field h (chosen c k) (a - h)) (4 * (k + 1))) (λ e''. zero_below)))
     (λ e. zero_below)
 
-pub rows_are : (g : Grammar) (p : ℕ) (c : Choice) → Rows (rows_of g p c)
+pub rows_are : (g : Grammar) (p : ℕ) (c : List ℕ) → Rows (rows_of g p c)
 rows_are g p c = record {
   count = length-map-range_with_len (row_of g p c) 0 16;
   below = λ v.
@@ -170,7 +169,7 @@ rows_are g p c = record {
 
 -- ---- edges and steps
 
-module _ (g : Grammar) (text : ℕ → List Segment) (lim : Limits g text) (p : ℕ) (exists : p < g.productions) (c : Choice) where
+module _ (g : Grammar) (text : ℕ → List Segment) (lim : Limits g text) (p : ℕ) (exists : p < g.productions) (c : List ℕ) where
   abbrev pub Step : Instance → Instance → Type 0
   Step = LocalStep g p (Chosen g p c)
 

@@ -17,3 +17,4 @@ pub mod Saturation
 pub mod Rounds
 pub mod Verdicts
 pub mod Single
+pub mod Filled

@@ -1,20 +1,22 @@
 -- What the outcome of a choice of relations says of a tree: where the chosen relations are those of the trees at the children's places,
 -- the outcome's relation is the whole tree's, and there is a cycle exactly where the tree has one through one of the root's own rules.
-use Rattle.std.proofs.Common.{◌≡◌, ℕ, zero, suc, ◌+◌, ◌-◌, ◌*◌, ◌/◌, ◌%◌, ◌^◌, ◌<◌, ◌≤◌, T, List, [], length, get_or, ℤ, sym, refl, ap, ◌∙◌, subst, ap₂, inl, inr, mod-lt, arith, pow_pos}
-use Rattle.std.proofs.lemmas.Bool.{cases_lt}
+use Rattle.std.proofs.Common.{◌≡◌, ℕ, ◌+◌, ◌-◌, ◌*◌, ◌/◌, ◌%◌, ◌^◌, ◌<◌, ◌≤◌, Bool, T, List, [], length, get_or, ℤ, sym, refl, ap, ◌∙◌, subst, ap₂, inl, inr, mod-lt, arith, pow_pos}
+use Rattle.std.specs.List.{enumerate_from}
+use Rattle.std.proofs.lemmas.List.{get_or_default}
+use Rattle.std.proofs.lemmas.List.Folds.{Any-from_list_any, list_any_at}
+use Rattle.std.proofs.lemmas.List.FromFn.{length-enumerate_from, get_or-enumerate_from}
 use Rattle.grammar.specs.Text.{Segment}
 use Rattle.grammar.specs.Grammar.{Grammar, attributes, child}
 use Rattle.grammar.specs.Limits.{Limits}
 use Rattle.grammar.specs.Tree.{Tree, node, hanging, TreeOf}
 use Rattle.grammar.specs.Dependence.{Instance, instance, at_root, WaitsAtRoot, Waits, Over}
 use Rattle.grammar.specs.Circularity.{Related, SameRelation}
-use Rattle.circularity.specs.declared.graph.Choice.{Choice}
 use Rattle.circularity.specs.Bits.{has, closed_below, field}
-use Rattle.circularity.specs.Working.{chosen, rows_of, cyclic_below, relation_in, outcome_of}
+use Rattle.circularity.specs.Working.{chosen, rows_of, has_cycle, relation_in, outcome_of}
 use Rattle.circularity.proofs.Small.{relation_inside, relation_below, own_attributes}
-use Rattle.circularity.proofs.Bits.{T_along, T_back, T_either, T_left, T_right, bits_same, has_mod}
+use Rattle.circularity.proofs.Bits.{T_true, true_T, T_along, T_back, bits_same, has_mod}
 use Rattle.circularity.proofs.Fields.{field_below, field_pack, fields_same, few_pairs}
-use Rattle.circularity.proofs.Closure.{Edge, closure_sound, closure_complete}
+use Rattle.circularity.proofs.Closure.{Rows, Edge, edge_from, closed_rows, closure_sound, closure_complete}
 use Rattle.circularity.proofs.Local.{LocalStep, Exact, Star, first_step}
 use Rattle.circularity.proofs.TreePaths.{local_to_tree, tree_to_local, own_cycle_to_local, local_cycle_to_own}
 use Rattle.circularity.proofs.Edges.{place, Chosen, rows_are, step_to_edge, edges_to_steps, steps_to_edges}
@@ -57,7 +59,7 @@ module _ (g : Grammar) (s : ℕ) (t u : Tree) where
 
 -- ---- the relation of a closed graph
 
-abbrev pub relation_of : Grammar → ℕ → Choice → ℕ
+abbrev pub relation_of : Grammar → ℕ → List ℕ → ℕ
 relation_of g p c = relation_in (closed_below 16 (rows_of g p c)) (g.inherited (g.symbol p)) (g.synthesized (g.symbol p))
 
 low_small : (h : ℕ) (rows : List ℕ) (j : ℕ) → get_or rows (h + j) 0 % 2 ^ h < 2 ^ h
@@ -78,29 +80,30 @@ module _ (h s : ℕ) (few : h + s ≤ 4) (rows : List ℕ) where
 
 -- ---- cycles of a closed graph
 
-pub cyclic_some : (rows : List ℕ) (n : ℕ) → T (cyclic_below rows n) → (v : ℕ) × (v < n) × Edge rows v v
-cyclic_some rows zero t = elim t [ ]
-cyclic_some rows (suc n) t =
-    elim (T_either (cyclic_below rows n) (has (get_or rows n 0) n) t) [
-      | inl before ↦
-          (let found = cyclic_some rows n before in
-          (found.0, omega (arith, found.1), found.2))
-      | inr here ↦ (n, omega arith, here)
-    ]
+-- a vertex and its row show a cycle
+abbrev own_edge : ℕ × ℕ → Bool
+own_edge vertex_row = has vertex_row.1 vertex_row.0
 
-pub some_cyclic : (rows : List ℕ) (n v : ℕ) → v < n → Edge rows v v → T (cyclic_below rows n)
-some_cyclic rows zero v l e = absurd (omega arith)
-some_cyclic rows (suc n) v l e =
-    elim (cases_lt v n) [
-      | inl before ↦ T_left (cyclic_below rows n) (has (get_or rows n 0) n) (some_cyclic rows n v before e)
-      | inr last ↦
-          (let q : v ≡ n = omega arith in
-          T_right (cyclic_below rows n) (has (get_or rows n 0) n) (subst (λ (x : ℕ). Edge rows x x) q e))
-    ]
+own_edge_at : (rows : List ℕ) (v : ℕ) (d : ℕ × ℕ) → v < length rows → own_edge (get_or (enumerate_from 0 rows) v d) ≡ has (get_or rows v 0) v
+own_edge_at rows v d inside = ap own_edge (get_or-enumerate_from 0 rows v d inside) ∙ ap₂ has (get_or_default rows v d.1 0 inside) (omega arith)
+
+module _ (rows : List ℕ) (are : Rows rows) where
+  pub cyclic_some : T (has_cycle rows) → (v : ℕ) × Edge rows v v
+  cyclic_some t =
+      let (v, x, inside, x_is, shown) = Any-from_list_any own_edge (enumerate_from 0 rows) (true_T (has_cycle rows) t) in
+      let within : v < length rows = simp length-enumerate_from at inside in
+      (v, T_true (has (get_or rows v 0) v) (sym (own_edge_at rows v x within) ∙ ap own_edge x_is ∙ shown))
+
+  pub some_cyclic : (v : ℕ) → Edge rows v v → T (has_cycle rows)
+  some_cyclic v e =
+      let inside : v < length rows = omega (arith, edge_from rows are v v e, are.count) in
+      T_true (has_cycle rows)
+      (list_any_at own_edge (enumerate_from 0 rows) v (0, 0) (simp length-enumerate_from inside)
+      (own_edge_at rows v (0, 0) inside ∙ true_T (has (get_or rows v 0) v) e))
 
 -- ---- the outcome and the tree
 
-module _ (g : Grammar) (text : ℕ → List Segment) (lim : Limits g text) (p : ℕ) (exists : p < g.productions) (c : Choice) where
+module _ (g : Grammar) (text : ℕ → List Segment) (lim : Limits g text) (p : ℕ) (exists : p < g.productions) (c : List ℕ) where
   pub own_few : attributes g (g.symbol p) ≤ 4
   own_few = own_attributes g text lim p exists
 
@@ -163,9 +166,9 @@ module _ (g : Grammar) (text : ℕ → List Segment) (lim : Limits g text) (p : 
 
     pub cyclic_has_own_cycle : T (outcome_of g p c).cyclic → (x : Instance) × (y : Instance) × WaitsAtRoot g this x y × Star (Waits g this) y x
     cyclic_has_own_cycle t =
-        let found = cyclic_some (closed_below 16 (rows_of g p c)) 16 t in
+        let found = cyclic_some (closed_below 16 (rows_of g p c)) (closed_rows 16 (rows_of g p c) (rows_are g p c)) t in
         local_cycle_to_own g (g.symbol p) n p l first second third (Chosen g p c) own_tree exact (place found.0)
-        (closed_to_steps found.0 found.0 found.2)
+        (closed_to_steps found.0 found.0 found.1)
 
     -- a way of the local graph begins at a vertex
     begins : (x y : Instance) → Over (LocalStep g p (Chosen g p c)) x y → (v : ℕ) × (v < 16) × (x ≡ place v)
@@ -180,5 +183,5 @@ module _ (g : Grammar) (text : ℕ → List Segment) (lim : Limits g text) (p : 
         let way : Over (LocalStep g p (Chosen g p c)) x x =
         own_cycle_to_local g (g.symbol p) n p l first second third (Chosen g p c) own_tree exact x y w back in
         let start = begins x x way in
-        some_cyclic (closed_below 16 (rows_of g p c)) 16 start.0 start.1
+        some_cyclic (closed_below 16 (rows_of g p c)) (closed_rows 16 (rows_of g p c) (rows_are g p c)) start.0
         (steps_to_closed start.0 start.0 (subst (λ (z : Instance). Over (LocalStep g p (Chosen g p c)) z z) start.2 way))

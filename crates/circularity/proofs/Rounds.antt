@@ -1,11 +1,11 @@
 -- What rounds from nothing give, and that they come to an end.
-use Rattle.std.proofs.Common.{◌≡◌, ℕ, zero, suc, ◌-◌, ◌<◌, ◌≤◌, T, List, length, sum, sym, ap, ◌∙◌, subst, arith}
+use Rattle.std.proofs.Common.{◌≡◌, ℕ, zero, suc, ◌-◌, ◌<◌, ◌≤◌, T, List, sum, sym, ap, ◌∙◌, subst, arith}
 use Rattle.grammar.specs.Grammar.{Grammar}
 use Rattle.grammar.specs.Text.{Segment}
 use Rattle.grammar.specs.Limits.{Limits}
 use Rattle.grammar.specs.Circularity.{Circular, Culprit, RelationCount}
 use Rattle.circularity.specs.Working.{grown, rounds, found_by, Saturated, counted}
-use Rattle.circularity.proofs.Saturation.{Sound, Closed, sound_rows, grown_rows, grown_more, grown_sound, empty_sound, settled, sum_bound}
+use Rattle.circularity.proofs.Saturation.{Sound, Closed, sound_rows, grown_rows, grown_more, grown_sound, empty_sound, unchanged, settled, sum_bound}
 use Rattle.circularity.proofs.Verdicts.{not_circular, relation_count, culprit, culprit_found}
 
 module _ (g : Grammar) (text : ℕ → List Segment) (lim : Limits g text) where
@@ -17,21 +17,18 @@ module _ (g : Grammar) (text : ℕ → List Segment) (lim : Limits g text) where
   saturated_sound masks s = subst (Sound g) (sym s.made) (rounds_sound s.turns)
 
   pub saturated_closed : (masks : List ℕ) → Saturated g masks → Closed g masks
-  saturated_closed masks s = settled g text lim masks (sound_rows g masks (saturated_sound masks s)) s.still
+  saturated_closed masks s = settled g text lim masks (sound_rows g masks (saturated_sound masks s)) (ap sum s.still)
 
-  -- a round that changes the sum of the sets brings it nearer to its bound
-  pub nearer : (masks masks' : List ℕ) (n : ℕ) → masks ≡ rounds g n → masks' ≡ grown g g.productions masks → (sum masks' ≡ sum masks → ⊥)
+  -- a round that changes the sets brings their sum nearer to its bound
+  pub nearer : (masks masks' : List ℕ) (n : ℕ) → masks ≡ rounds g n → masks' ≡ grown g g.productions masks → (masks' ≡ masks → ⊥)
       → 1048560 - sum masks' < 1048560 - sum masks
   nearer masks masks' n masks-is grown-is differs =
       let sound : Sound g masks = subst (Sound g) (sym masks-is) (rounds_sound n) in
       let rows = grown_rows g text lim masks (sound_rows g masks sound) g.productions (omega arith) in
       let bound : sum masks' ≤ 1048560 = rw grown-is (sum_bound (grown g g.productions masks) rows.count rows.below) in
       let more : sum masks ≤ sum masks' = rw grown-is (grown_more g text lim masks (sound_rows g masks sound) g.productions (omega arith)) in
-      let apart : sum masks' ≡ sum masks → ⊥ = differs in
+      let apart : sum masks' ≡ sum masks → ⊥ = λ e. differs (grown-is ∙ unchanged g text lim masks (sound_rows g masks sound) (ap sum (sym grown-is) ∙ e)) in
       omega arith
-
-  pub rounds_length : (masks : List ℕ) (n : ℕ) → masks ≡ rounds g n → length masks ≡ 16
-  rounds_length masks n e = ap length e ∙ (rounds_sound n).count
 
   -- the verdicts from saturated sets
   pub saturated_passes : (masks : List ℕ) → Saturated g masks → ((p : ℕ) → p < g.productions → T (found_by g p masks).cyclic → ⊥)

@@ -11,7 +11,6 @@ use Rattle.grammar.specs.Text.{Segment}
 use Rattle.grammar.specs.Grammar.{Grammar, child}
 use Rattle.grammar.specs.Limits.{Limits}
 use Rattle.grammar.specs.Tree.{Tree, none, node, hanging, TreeOf}
-use Rattle.circularity.specs.declared.graph.Choice.{Choice}
 use Rattle.circularity.specs.Bits.{has}
 use Rattle.circularity.specs.Working.{chosen, outcome_of, choices_at, choice, found_by, grown}
 use Rattle.circularity.proofs.Bits.{T_false, has_zero, or_has, or_grows, or_same_means_below, power_has, has_power_only}
@@ -97,9 +96,6 @@ module _ (g : Grammar) (text : ℕ → List Segment) (lim : Limits g text) where
   pub grown_length : (masks : List ℕ) → Rows masks → (n : ℕ) → n ≤ g.productions → length (grown g n masks) ≡ 16
   grown_length masks rows n fits = (grown_rows masks rows n fits).count
 
-  pub grown_below : (masks : List ℕ) → Rows masks → (n : ℕ) → n ≤ g.productions → (s : ℕ) → get_or (grown g n masks) s 0 < 2 ^ 16
-  grown_below masks rows n fits = (grown_rows masks rows n fits).below
-
   -- the sum of the sets never falls
   pub grown_more : (masks : List ℕ) → Rows masks → (n : ℕ) → n ≤ g.productions → sum masks ≤ sum (grown g n masks)
   grown_more masks rows zero fits = omega arith
@@ -139,6 +135,9 @@ module _ (g : Grammar) (text : ℕ → List Segment) (lim : Limits g text) (mask
                 (subst (λ (m : List ℕ). ClosedAt g m n) was.0 (λ r t. or_same_means_below (get_or before i 0) b same r t)),
           )
 
+  pub unchanged : sum (grown g g.productions masks) ≡ sum masks → grown g g.productions masks ≡ masks
+  unchanged e = (still g.productions (omega arith) (subst (λ (x : ℕ). x ≤ sum masks) (sym e) (omega arith))).0
+
   pub settled : sum (grown g g.productions masks) ≡ sum masks → Closed g masks
   settled e =
       let closed = (still g.productions (omega arith) (subst (λ (x : ℕ). x ≤ sum masks) (sym e) (omega arith))).1 in
@@ -152,7 +151,7 @@ sum_bound masks count below =
 -- ---- every relation in the sets is that of a tree
 
 -- a tree whose root is production p, and whose children have the chosen relations
-pub record Realised (g : Grammar) (p : ℕ) (c : Choice) : Type 0 where
+pub record Realised (g : Grammar) (p : ℕ) (c : List ℕ) : Type 0 where
   pub first : Tree
   pub second : Tree
   pub third : Tree
@@ -187,7 +186,7 @@ module _ (g : Grammar) (text : ℕ → List Segment) (lim : Limits g text) where
         | inr h ↦ (none, get_or_past (g.children p) k g.symbols h, λ l. absurd (omega arith))
       ]
 
-  pub realise : (masks : List ℕ) → Sound g masks → (p : ℕ) → p < g.productions → (c : Choice) → Fits g p masks c → Realised g p c
+  pub realise : (masks : List ℕ) → Sound g masks → (p : ℕ) → p < g.productions → (c : List ℕ) → Fits g p masks c → Realised g p c
   realise masks sound p exists c fits =
       let at : (k : ℕ) → k < 3 → Hung g p k (chosen c k) = λ k l. hang masks sound p exists k (chosen c k) (fits.among k l) in
       let a = at 0 (omega arith) in
@@ -202,10 +201,10 @@ module _ (g : Grammar) (text : ℕ → List Segment) (lim : Limits g text) where
       }
 
   -- an outcome has one relation
-  relation_only : (p : ℕ) → p < g.productions → (c : Choice) (r : ℕ) → T (has (outcome_of g p c).relations r) → relation_of g p c ≡ r
+  relation_only : (p : ℕ) → p < g.productions → (c : List ℕ) (r : ℕ) → T (has (outcome_of g p c).relations r) → relation_of g p c ≡ r
   relation_only p exists c r t = has_power_only (relation_of g p c) r (subst (λ (x : ℕ). T (has x r)) (one_shl (relation_of g p c) 16 (relation_small g text lim p exists c)) t)
 
-  relation_there : (p : ℕ) → p < g.productions → (c : Choice) → T (has (outcome_of g p c).relations (relation_of g p c))
+  relation_there : (p : ℕ) → p < g.productions → (c : List ℕ) → T (has (outcome_of g p c).relations (relation_of g p c))
   relation_there p exists c =
       subst (λ (x : ℕ). T (has x (relation_of g p c))) (sym (one_shl (relation_of g p c) 16 (relation_small g text lim p exists c))) (power_has (relation_of g p c))
 
@@ -261,7 +260,7 @@ Known g masks s t = (r : ℕ) × T (has (get_or masks s 0) r) × Code g s t r ×
 
 -- a choice of relations in the sets, each that of the tree at its child place
 pub record Coded (g : Grammar) (masks : List ℕ) (p : ℕ) (t : Tree) : Type 0 where
-  pub chosen_ones : Choice
+  pub chosen_ones : List ℕ
   pub fits : Fits g p masks chosen_ones
   pub codes : (k : ℕ) → k < length (g.children p) → Code g (child g p k) (hanging t k) (chosen chosen_ones k)
 

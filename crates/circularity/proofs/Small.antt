@@ -1,12 +1,10 @@
 -- Small numbers: a symbol has at most four attributes, so a relation has at most four pairs, and its number is below 16.
-use Rattle.std.proofs.Common.{◌≡◌, ℕ, ◌+◌, ◌*◌, ◌%◌, ◌^◌, ◌<◌, ◌≤◌, List, length, get_or, arith, pow_pos, pow_mono}
+use Rattle.std.proofs.Common.{ℕ, ◌+◌, ◌*◌, ◌%◌, ◌^◌, ◌<◌, ◌≤◌, List, get_or, arith, pow_pos, pow_mono}
 use Rattle.std.proofs.lemmas.Nat.{mod_below}
-use Rattle.std.proofs.lemmas.List.{get_or_default}
-use Rattle.std.proofs.lemmas.Bool.{lt-ltb}
-use Rattle.grammar.specs.Grammar.{Grammar, attributes, child}
+use Rattle.grammar.specs.Grammar.{Grammar, attributes}
 use Rattle.grammar.specs.Text.{Segment}
 use Rattle.grammar.specs.Limits.{Limits}
-use Rattle.circularity.specs.Working.{relation_in, choices_at}
+use Rattle.circularity.specs.Working.{relation_in}
 use Rattle.circularity.proofs.Fields.{pack_below, few_pairs}
 
 pub power_small : (h : ℕ) → h ≤ 4 → 2 ^ h ≤ 16
@@ -21,22 +19,6 @@ relation_below rows h s few = omega (arith, relation_inside rows h s few, power_
 
 pub own_attributes : (g : Grammar) (text : ℕ → List Segment) → Limits g text → (p : ℕ) → p < g.productions → attributes g (g.symbol p) ≤ 4
 own_attributes g text lim p h = lim.few_attributes (g.symbol p) (lim.each p h).symbol_exists
-
--- child k's symbol, by the list of the children's symbols
-module _ (g : Grammar) (p k : ℕ) (symbols : List ℕ) (symbols_is : symbols ≡ g.children p) (inside : k < length symbols) where
-  pub symbol_asked : get_or symbols k 0 ≡ child g p k
-  symbol_asked = rw symbols_is (get_or_default (g.children p) k 0 g.symbols (rw (← symbols_is) inside))
-
-pub asked_symbol : (g : Grammar) (text : ℕ → List Segment) → Limits g text → (p : ℕ) → p < g.productions
-    → (k : ℕ) (symbols : List ℕ) → symbols ≡ g.children p → k < length symbols → get_or symbols k 0 < 16
-asked_symbol g text lim p exists k symbols symbols_is inside =
-    rw (symbol_asked g p k symbols symbols_is inside)
-    (omega (arith, ((lim.each p exists).child_exists k (rw (← symbols_is) inside)).1, lim.few_symbols))
-
-pub asked_choice : (g : Grammar) (p : ℕ) (masks : List ℕ) (k : ℕ) (symbols : List ℕ) → symbols ≡ g.children p → k < length symbols
-    → get_or masks (get_or symbols k 0) 0 ≡ choices_at g p masks k
-asked_choice g p masks k symbols symbols_is inside =
-    rw (symbol_asked g p k symbols symbols_is inside, lt-ltb k (length (g.children p)) (rw (← symbols_is) inside))
 
 pub own_symbol : (g : Grammar) (text : ℕ → List Segment) → Limits g text → (p : ℕ) → p < g.productions → g.symbol p < 16
 own_symbol g text lim p exists = omega (arith, (lim.each p exists).symbol_exists, lim.few_symbols)

@@ -1,7 +1,8 @@
 -- What the saturated sets of relations say: how many relations each symbol's trees have, and whether the language is circular.
-use Rattle.std.proofs.Common.{◌≡◌, ℕ, ◌<◌, Bool, true, false, T, List, map, length, get_or, pos, sym, refl, subst, arith}
+use Rattle.std.proofs.Common.{◌≡◌, ℕ, zero, suc, ◌+◌, ◌<◌, ◌≤◌, Bool, true, false, T, List, map, length, get_or, take, sum_by, pos, sym, refl, ap, ◌∙◌, subst, add-one, arith}
 use lib.Count.{ones}
 use Rattle.std.proofs.lemmas.List.{get_or-map, length-map}
+use Rattle.std.proofs.lemmas.List.Sums.{sum_by_more}
 use Rattle.grammar.specs.Text.{Segment}
 use Rattle.grammar.specs.Grammar.{Grammar}
 use Rattle.grammar.specs.Limits.{Limits}
@@ -9,7 +10,7 @@ use Rattle.grammar.specs.Tree.{RootedBy, Tree, none, node, TreeOf}
 use Rattle.grammar.specs.Dependence.{Instance, WaitsAtRoot, Waits}
 use Rattle.grammar.specs.Circularity.{Circular, Culprit, Relations, RelationCount, sum_below}
 use Rattle.circularity.specs.Bits.{has}
-use Rattle.circularity.specs.Working.{found_by}
+use Rattle.circularity.specs.Working.{found_by, counted}
 use Rattle.circularity.proofs.Bits.{has_below}
 use Rattle.circularity.proofs.Cycles.{circular_has_culprit}
 use Rattle.circularity.proofs.Gathering.{cycle_seen, found_has, has_found}
@@ -64,6 +65,12 @@ module _ (g : Grammar) (s c : ℕ) (realised : (r : ℕ) → T (has c r) → (t 
         ));
   }
 
+-- a sum over the first n sets, set by set
+counted_is : (f : ℕ → ℕ) (masks : List ℕ) (n : ℕ) → n ≤ length masks → sum_by f (take n masks) ≡ sum_below (λ s. f (get_or masks s 0)) n
+counted_is f masks zero inside = refl
+counted_is f masks (suc n) inside =
+    rw (← add-one n) (sum_by_more f masks n 0 inside ∙ ap (λ m. m + f (get_or masks n 0)) (counted_is f masks n (omega arith)))
+
 module _ (g : Grammar) (text : ℕ → List Segment) (lim : Limits g text) (masks : List ℕ) (sound : Sound g masks) where
   module _ (closed : Closed g masks) where
     pub relations_counted : (s : ℕ) → s < g.symbols → Relations g s (ones (get_or masks s 0))
@@ -76,8 +83,10 @@ module _ (g : Grammar) (text : ℕ → List Segment) (lim : Limits g text) (mask
         (λ r t. members_all 16 c r (has_below 16 c r (sound.below s) t) t))
 
     -- the number of relations of all symbols
-    pub relation_count : (n : ℕ) → n ≡ sum_below (λ s. ones (get_or masks s 0)) g.symbols → RelationCount g n
-    relation_count n e = record { of = λ s. ones (get_or masks s 0); relations = relations_counted; total_is = e }
+    pub relation_count : (n : ℕ) → n ≡ counted masks g.symbols → RelationCount g n
+    relation_count n e =
+        let inside : g.symbols ≤ length masks = omega (arith, lim.few_symbols, sound.count) in
+        record { of = λ s. ones (get_or masks s 0); relations = relations_counted; total_is = e ∙ counted_is ones masks g.symbols inside }
 
     -- ---- circular or not
 

@@ -10,7 +10,8 @@ mod relations;
 
 use fault::LanguageFault;
 use grammar::Language;
-use relations::{count, saturate, try_production};
+use graph::Production;
+use relations::Relations;
 
 // The answer of a passed test: how many different relations each symbol's trees have, added over all symbols.
 #[derive(Clone, Copy, PartialEq, Eq)]
@@ -24,14 +25,15 @@ pub struct Passes {
 pub fn test<L: Language>(language: &L) -> Result<Passes, LanguageFault>
     ensures { Verdict (L.grammar language.now) result }
 {
-    let masks = saturate(language);
-    for production in 0..language.productions() {
-        if try_production(language, production, &masks).cyclic {
-            return Err(LanguageFault::Circularity(production));
+    let found = Relations::saturated(language);
+    for number in 0..language.productions() {
+        let production = Production { language, number };
+        if found.try_production(&production).cyclic {
+            return Err(LanguageFault::Circularity(number));
         }
     }
     Ok(Passes {
-        relations: count(language, &masks),
+        relations: found.count(language),
     })
 }
 
