@@ -27,6 +27,10 @@ only_allowed test allowed (suc n) t p h u = grind (arith, only_allowed test allo
 abbrev pub cyclic : Grammar → List ℕ → ℕ → Bool
 cyclic g masks p = (found_by g p masks).cyclic
 
+-- a production that is one of two, in a refusal
+named : (p q n : ℕ) → T (eqb n p || eqb n q) → (◌≡◌ {A = Result Passes LanguageFault} (Err (Circularity n)) (Err (Circularity p))) ⊎ (◌≡◌ {A = Result Passes LanguageFault} (Err (Circularity n)) (Err (Circularity q)))
+named p q n u = grind (arith, eqb→eq)
+
 module _ (g : Grammar) (text : ℕ → List Segment) (lim : Limits g text) (masks : List ℕ) (saturated : Saturated g masks) where
   pub passes_with : T (only (cyclic g masks) (λ p. false) g.productions) → (n : ℕ) → n ≡ counted masks g.symbols → PassesWith g n
   passes_with none n n-is =
@@ -42,11 +46,8 @@ module _ (g : Grammar) (text : ℕ → List Segment) (lim : Limits g text) (mask
         every_run = every;
       }
     where
-      named : (n : ℕ) → T (eqb n p || eqb n q) → (◌≡◌ {A = Result Passes LanguageFault} (Err (Circularity n)) (Err (Circularity p))) ⊎ (◌≡◌ {A = Result Passes LanguageFault} (Err (Circularity n)) (Err (Circularity q)))
-      named n u = grind (arith, eqb→eq)
-
       every : (r : Result Passes LanguageFault) → Verdict g r → (r ≡ Err (Circularity p)) ⊎ (r ≡ Err (Circularity q))
       every (Ok a) w = absurd (w.0 (culprit_is_circular g p (saturated_culprit g text lim masks saturated p exists t)))
       every (Err (Circularity n)) w =
           let (there, seen) = saturated_named g text lim masks saturated n w in
-          named n (only_allowed (cyclic g masks) (λ r. eqb r p || eqb r q) g.productions allowed n there seen)
+          named p q n (only_allowed (cyclic g masks) (λ r. eqb r p || eqb r q) g.productions allowed n there seen)

@@ -36,8 +36,10 @@ pub fn insert<L: Language>(
 ) -> Result<Inserted, Refused>
     ensures { InsertHandled (L.grammar language.now) (λ row. L.Value.Figure.means (L.Value.Figure.reads row)) L.Value.Figure.nothing nodes.old values.old nodes.new values.new node production literal result }
 {
-    edit::insert(language, nodes, values, node, production, literal)
-        .map_err(|fault| Refused { sheet, fault })?;
+    edit::insert(language, nodes, values, node, production, literal).map_err(|fault| Refused {
+        sheet,
+        fault,
+    })?;
     Ok(Inserted {
         sheet: Open {
             call: OpenedBy::Insert,
@@ -57,8 +59,7 @@ pub fn retype<L: Language>(
 ) -> Result<Retyped, Refused>
     ensures { RetypeHandled (L.grammar language.now) (λ row. L.Value.Figure.means (L.Value.Figure.reads row)) L.Value.Figure.nothing nodes.old values.old nodes.new values.new node literal result }
 {
-    edit::retype(language, nodes, values, node, literal)
-        .map_err(|fault| Refused { sheet, fault })?;
+    edit::retype(language, nodes, values, node, literal).map_err(|fault| Refused { sheet, fault })?;
     Ok(Retyped {
         sheet: Open {
             call: OpenedBy::Retype,

@@ -17,8 +17,7 @@ pub fn cut<L: Language>(
 ) -> Result<CutOut, Refused>
     ensures { CutHandled (L.grammar language.now) (λ row. L.Value.Figure.means (L.Value.Figure.reads row)) L.Value.Figure.nothing nodes.old values.old nodes.new values.new node result }
 {
-    let hole = edit::cut(language, nodes, values, node)
-        .map_err(|fault| Refused { sheet, fault })?;
+    let hole = edit::cut(language, nodes, values, node).map_err(|fault| Refused { sheet, fault })?;
     Ok(CutOut {
         sheet: Open {
             call: OpenedBy::Cut,
