@@ -12,12 +12,6 @@ returns-in_err-check_with_clipping g c =
 pub check_hole-requires : goal.check_hole-requires
 check_hole-requires g c = (climb_used c.args.view.nodes.now 0 c.args.n c.in_ok-check_with_clipping.ensures.1.1.1.1.0).0
 
-pub returns-in_err-check_hole : goal.returns-in_err-check_hole
-returns-in_err-check_hole g c =
-    handed_on (with_a_clipping (g.L.Language.grammar c.args.view.language.now) c.args.view.nodes.now c.args.view.values c.args.root c.args.n)
-    (hole_at (g.L.Language.grammar c.args.view.language.now) c.args.view.nodes.now c.args.n ∷ []) (same_symbol (g.L.Language.grammar c.args.view.language.now) c.args.view.nodes.now c.args.root c.args.n ∷ []) _ _
-    c.in_ok-check_with_clipping.ensures c.in_err-check_hole.ensures c.from_residual-in_err-check_hole.ensures.1
-
 pub check_symbol-requires : goal.check_symbol-requires
 check_symbol-requires g c =
     let m = c.in_ok-check_with_clipping.ensures in

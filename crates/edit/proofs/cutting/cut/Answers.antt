@@ -1,17 +1,6 @@
-use Rattle.std.proofs.Common.{length}
 use Rattle.table.proofs.Climbs.{climb_used}
-use Rattle.edit.specs.Checks.{cut_checks}
-use Rattle.edit.specs.Calls.{CutWork}
 use Rattle.edit.proofs.CutDone.{hole_hangable, cut_done}
-use Rattle.edit.proofs.Editing.{refused}
 use Rattle.edit.proofs.cutting.cut.Goals as goal
-
-pub returns-in_err-hole : goal.returns-in_err-hole
-returns-in_err-hole g c =
-    refused (g.L.Language.grammar c.args.language.now) (λ row. g.L.Value.Figure.means (g.L.Value.Figure.reads row)) g.L.Value.Figure.nothing c.args.nodes.now c.args.values.now
-    (cut_checks (g.L.Language.grammar c.args.language.now) c.args.nodes.now (length c.args.values.now) c.args.node)
-    (λ hole. CutWork (g.L.Language.grammar c.args.language.now) (λ row. g.L.Value.Figure.means (g.L.Value.Figure.reads row)) g.L.Value.Figure.nothing c.args.nodes.now c.args.values.now c.args.nodes.now c.args.values.now c.args.node hole)
-    _ c.from_residual.result c.in_err-hole.ensures c.from_residual.ensures.1
 
 pub bounds-nodes-node : goal.bounds-nodes-node
 bounds-nodes-node g c = (climb_used c.args.nodes.now 0 c.args.node c.in_ok-hole.ensures.0.1.1.1.0).0

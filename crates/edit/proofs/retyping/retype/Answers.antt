@@ -1,14 +1,8 @@
 use Rattle.std.proofs.Common.{to_z-of_z}
 use Rattle.table.proofs.Members.{at_most_three}
 use Rattle.table.proofs.Under.{climb_used}
-use Rattle.edit.proofs.Editing.{retype_refused}
 use Rattle.edit.proofs.Relabelling.{retype_done}
 use Rattle.edit.proofs.retyping.retype.Goals as goal
-
-pub returns-in_err-check_retype : goal.returns-in_err-check_retype
-returns-in_err-check_retype g c =
-    retype_refused (g.L.Language.grammar c.args.language.now) (λ row. g.L.Value.Figure.means (g.L.Value.Figure.reads row)) g.L.Value.Figure.nothing c.args.nodes.now c.args.values.now c.args.n c.args.literal _ (to_z-of_z c.ranges.literal)
-    c.in_err-check_retype.field-0.0 c.from_residual.result c.from_residual.ensures.1 c.in_err-check_retype.ensures
 
 pub set_literal-requires : goal.set_literal-requires
 set_literal-requires g c = let m = c.in_ok-check_retype.ensures in (climb_used m.1.1.1.0).0
