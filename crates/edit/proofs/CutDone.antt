@@ -25,10 +25,6 @@ use Rattle.edit.proofs.HungRecords.{one_child, parent_apart, place_inside, hanga
 use Rattle.edit.proofs.HungRoots.{no_hole_roots}
 use Rattle.edit.proofs.HungTrees.{clipping_tree, node_tree, sheet_tree, swapped_kept, swapped_link}
 
--- the hole that the code puts down
-pub placed : (ns mid : List Node) (h s s' : ℕ) → mid ≡ set ns h (hole_record s' none) → s' ≡ s → mid ≡ set ns h (hole_record s none)
-placed ns mid h s s' e f = e ∙ ap (λ (i : ℕ). set ns h (hole_record i none)) f
-
 -- Node h is the highest free one, and a hole of the node's symbol is put down there.
 module _ (g : Grammar) (text : ℕ → List Segment) (limits : Limits g text) (ns : List Node) (n h : ℕ) (few : length ns ≤ 1000) (sheet : Sheet g ns) (on : Climb ns 0 n) (place : (Hole g (at ns n).production → ⊥) × (n ≡ 0 → ⊥)) (next : NextFree ns (length ns) h) where
   abbrev s : ℕ

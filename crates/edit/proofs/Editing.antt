@@ -4,8 +4,8 @@ use Rattle.grammar.specs.Grammar.{Grammar}
 use Rattle.table.specs.declared.node.Node.{Node}
 use Rattle.table.specs.Refusals.{Check, First}
 use Rattle.edit.specs.declared.fault.EditFault.{EditFault}
-use Rattle.edit.specs.Checks.{insert_checks, retype_checks}
-use Rattle.edit.specs.Calls.{Edited, InsertWork, RetypeWork, InsertCall, RetypeCall}
+use Rattle.edit.specs.Checks.{insert_checks}
+use Rattle.edit.specs.Calls.{Edited, InsertWork, InsertCall}
 
 -- A refusal of the checks is the edit's, and all memory is as it was.
 pub refused : {R M A : Type 0} (g : Grammar) (meaning : R → M) (nothing : M) (before : List Node) (values : List R) (checks : List (Check EditFault)) (Work : A → Type 0) (e : EditFault) (r : Result A EditFault)
@@ -15,11 +15,6 @@ refused g meaning nothing before values checks Work e (Err f) w k = (subst (λ x
 
 -- Retype's and insert's refusals; the literal comes back from the code by another term, which is equal to it.
 module _ {R M A : Type 0} (g : Grammar) (meaning : R → M) (nothing : M) (before : List Node) (values : List R) (n : ℕ) (l l' : ℤ) (same : l' ≡ l) (e : EditFault) (r : Result A EditFault) (is : IsErrAnd r (λ f. f ≡ e)) where
-  pub retype_refused : First (retype_checks g before (length values) n l') e → RetypeCall g meaning nothing before values before values n l r
-  retype_refused w =
-      refused g meaning nothing before values (retype_checks g before (length values) n l) (λ a. RetypeWork g meaning nothing before values before values n l) e r
-      (subst (λ (z : ℤ). First (retype_checks g before (length values) n z) e) same w) is
-
   pub insert_refused : (p : ℕ) → First (insert_checks g before (length values) n p l') e → InsertCall g meaning nothing before values before values n p l r
   insert_refused p w =
       refused g meaning nothing before values (insert_checks g before (length values) n p l) (λ a. InsertWork g meaning nothing before values before values n p l) e r

@@ -1,5 +1,5 @@
 -- The free nodes below a number, one by one, and the child fields that name the first of them.
-use Rattle.std.proofs.Common.{◌≡◌, ℕ, zero, suc, ◌+◌, ◌-◌, ◌<◌, ◌≤◌, true, false, List, [], ◌∷◌, ◌++◌, length, take, drop, set, sym, refl, ap, ◌∙◌, arith, length-set}
+use Rattle.std.proofs.Common.{◌≡◌, ℕ, zero, suc, ◌+◌, ◌-◌, ◌<◌, ◌≤◌, true, false, List, [], ◌∷◌, length, take, drop, set, sym, refl, ap, ◌∙◌, arith, length-set}
 use Rattle.std.proofs.lemmas.List.{length-take-le}
 use Rattle.std.proofs.Math.Seq.{take-set-lt}
 use Rattle.table.specs.declared.node.Node.{Node}
@@ -56,14 +56,6 @@ named_more ns k below n fields h named next =
     let more = one_more (free_numbers ns) k n (free_below ns n) h (named.remain ∙ next.first) in
     record { inside = omega (arith, named.inside, next.lower); enough = more.enough; remain = more.remain; fields_are = ap (λ xs. set xs k n) named.fields_are ∙ sym more.fields }
 
-pub named_out : (ns : List Node) (k below count : ℕ) (fields : List ℕ) → k < count → Named ns k below fields → free_below ns below ≡ [] → length (free_numbers ns) < count
-named_out ns k below count fields h named e = omega (arith, h, used_up (free_numbers ns) k (named.remain ∙ e))
-  where
-    used_up : (free : List ℕ) (k : ℕ) → drop k free ≡ [] → length free ≤ k
-    used_up [] k e = omega arith
-    used_up (x ∷ free) zero e = absurd (let z : ◌≡◌ {A = ℕ} 0 1 = cc in omega arith)
-    used_up (x ∷ free) (suc k) e = omega (arith, used_up free k e)
-
 -- The same of the fields for some new nodes alone, the first of the three.
 pub record NamedOf (ns : List Node) (count k below : ℕ) (fields : List ℕ) : Type 0 where
   pub all : List ℕ
@@ -84,19 +76,3 @@ named_of_more ns count k below n fields few h so_far next = record {
   where
     inside : k < count
     inside = omega (arith, h, ap length so_far.part, length-take-le count so_far.all (omega (arith, so_far.size)))
-
--- all of them, with none behind them
-pub named_of_all : (ns : List Node) (count below : ℕ) (fields : List ℕ) → count ≤ 3 → NamedOf ns count count below fields → fields ++ drop count (none ∷ none ∷ none ∷ []) ≡ three (take count (free_numbers ns))
-named_of_all ns count below fields few so_far =
-    ap (λ xs. xs ++ drop count (none ∷ none ∷ none ∷ [])) (so_far.part ∙ ap (take count) so_far.named.fields_are)
-    ∙ filled_up (free_numbers ns) count few so_far.named.enough
-  where
-    filled_up : (free : List ℕ) (count : ℕ) → count ≤ 3 → count ≤ length free → take count (three (take count free)) ++ drop count (none ∷ none ∷ none ∷ []) ≡ three (take count free)
-    filled_up free zero h enough = refl
-    filled_up [] (suc count) h enough = absurd (omega arith)
-    filled_up (x ∷ free) (suc zero) h enough = refl
-    filled_up (x ∷ []) (suc (suc count)) h enough = absurd (omega arith)
-    filled_up (x ∷ y ∷ free) (suc (suc zero)) h enough = refl
-    filled_up (x ∷ y ∷ []) (suc (suc (suc count))) h enough = absurd (omega arith)
-    filled_up (x ∷ y ∷ z ∷ free) (suc (suc (suc zero))) h enough = refl
-    filled_up (x ∷ y ∷ z ∷ free) (suc (suc (suc (suc count)))) h enough = absurd (omega arith)

@@ -7,7 +7,6 @@ pub mod Freshness
 pub mod Blanking
 pub mod FreedClipping
 pub mod MadeSheet
-pub mod Refused
 pub mod Listing
 pub mod Starting
 pub mod Regrowing
@@ -22,4 +21,3 @@ pub mod Filled
 pub mod Filling
 pub mod Relabelling
 pub mod CutDone
-pub mod Relayed

@@ -1,15 +1,13 @@
 -- Listing the nodes of a clipping and freeing the listed nodes, step by step.
-use Rattle.std.proofs.Common.{◌≡◌, ℕ, ◌+◌, ◌<◌, ◌≤◌, eqb, ◌≢◌, List, length, get_or, take, set, Option, Some, None, MatchBool, MatchOption, sym, refl, ap, ◌∙◌, subst, inl, inr, arith, length-set}
+use Rattle.std.proofs.Common.{◌≡◌, ℕ, ◌+◌, ◌<◌, ◌≤◌, eqb, ◌≢◌, List, length, get_or, take, set, Option, Some, None, MatchBool, MatchOption, sym, ap, ◌∙◌, subst, inl, inr, arith, length-set}
 use Rattle.std.proofs.lemmas.List.{get_or-set_same, get_or-set_other, get_or-take, length-take, length-take-le}
 use Rattle.std.specs.Option.{option_eq}
 use Rattle.table.specs.declared.node.Node.{Node}
-use Rattle.table.specs.Nodes.{none, nowhere, at}
+use Rattle.table.specs.Nodes.{none, at}
 use Rattle.table.specs.Climbing.{Climb}
 use Rattle.table.proofs.Answering.{by_equal}
 use Rattle.table.proofs.Climbs.{climb_used, climb_unique}
 use Rattle.table.proofs.Reading.{below_or_not}
-use Rattle.table.proofs.Replaced.{equal_or_not}
-use Rattle.edit.specs.Fresh.{free_record}
 use Rattle.edit.specs.Gathering.{Listed, Gathered, Freed, ClippingFreed}
 
 -- a climb's top tells whether the climb ends at a root
@@ -22,14 +20,6 @@ by_found ns few None root n out = out root
 by_found ns few (Some top) root n c = by_top ns few top root n c
 
 module _ (ns : List Node) (root : ℕ) (slots : List ℕ) where
-  pub gathered_none : Gathered ns root 0 slots slots 0
-  gathered_none = record {
-    few = omega arith;
-    climbs = λ k h. absurd (omega arith);
-    all = λ n h c. absurd (omega arith);
-    rest = record { many = refl; same = λ k d h. refl };
-  }
-
   module _ (n count : ℕ) (slots' : List ℕ) (so_far : Gathered ns root n slots slots' count) where
     -- the node's climb ends elsewhere
     pub gathered_not : (Climb ns root n → ⊥) → Gathered ns root (n + 1) slots slots' count
@@ -66,30 +56,6 @@ module _ (ns : List Node) (root : ℕ) (slots : List ℕ) where
 
         last : get_or (set slots' count n) count 0 ≡ n
         last = let inside : count < length slots' = omega (arith, so_far.few, so_far.rest.many, room) in get_or-set_same {A = ℕ} slots' count n 0 inside
-
-module _ (slots : List ℕ) (before : List Node) where
-  pub freed_none : Freed slots 0 before before
-  freed_none = record { many = refl; freed = λ k h. absurd (omega arith); others = λ n out. refl }
-
-  pub freed_more : (k n : ℕ) (after : List Node) → Freed slots k before after → get_or slots k 0 ≡ n → n < length before → Freed slots (k + 1) before (set after n free_record)
-  freed_more k n after so_far named inside = record {
-    many = length-set after n free_record ∙ so_far.many;
-    freed = λ j h. elim (equal_or_not (get_or slots j 0) n) [
-      | inl q ↦ ap (λ i. at (set after n free_record) i) q.1 ∙ here
-      | inr q ↦
-          let earlier : j < k = elim (below_or_not j k) [ inl l ↦ l | inr l ↦ let e : j ≡ k = omega arith in absurd (q.1 (ap (λ i. get_or slots i 0) e ∙ named)) ] in
-          there (get_or slots j 0) q.1 ∙ so_far.freed j earlier
-    ];
-    others = λ m out.
-        there m (λ e. out (k, omega arith, named ∙ sym e))
-        ∙ so_far.others m (λ p. out (p.0, omega (arith, p.1), p.2));
-  }
-    where
-      here : at (set after n free_record) n ≡ free_record
-      here = let fits : n < length after = omega (arith, so_far.many) in get_or-set_same after n free_record nowhere fits
-
-      there : (m : ℕ) → (m ≡ n → ⊥) → at (set after n free_record) m ≡ at after m
-      there m other = get_or-set_other after n m free_record nowhere other
 
 -- the listed nodes lie in the table
 pub listed_inside : (root count : ℕ) (before : List Node) (waiting waiting' : List ℕ) → Gathered before root (length before) waiting waiting' count → (k : ℕ) → k < length (take count waiting') → get_or (take count waiting') k 0 < length before
