@@ -11,7 +11,8 @@ use std::array;
 // The relations chosen for the trees of a production's children, as numbers below 16; 0 where there is no child.
 pub(crate) type Choice = [u16; 3];
 
-// What choices of the children's relations give: the relations of the production's trees, as a set of bits, and whether there is a cycle.
+// What choices of the children's relations give: the relations of the production's trees, as a set of bits, and whether there is a cycle. Each holds
+// whatever the other is, so this is no Result.
 #[derive(Clone, Copy)]
 pub(crate) struct Outcome {
     pub relations: u16,

@@ -15,7 +15,8 @@ fn climbs_to(table: Table<'_>, root: u16, n: u16) -> bool
     table.top_of(n) == Some(root)
 }
 
-// Lists the nodes whose climb ends at a root, in the first slots. Answers how many there are.
+// Lists the nodes whose climb ends at a root, in the first slots. Answers how many there are: the slots are the caller's, there may be more of them,
+// and there is no heap here for a Vec.
 fn gather(table: Table<'_>, root: u16, slots: &mut [u16]) -> usize
     requires { length table.nodes.now ≤ length slots.old }
     ensures { Gathered table.entry.nodes.now root (length table.entry.nodes.now) slots.old slots.new result }

@@ -1,4 +1,6 @@
 // The work of the calls that change a sheet, on records and rows: make, insert, cut, paste, exchange, retype and discard.
+// Records and rows are two slices that the caller lends, and stay two parameters: a struct of both would be made anew for each call, and one that is
+// lent itself could be left holding other slices.
 #![tactic(auto)]
 
 mod checks;

@@ -51,7 +51,7 @@ impl Scope {
     }
 
     // The scope after a name is declared with the type of that number.
-    pub fn declare(self, name: u32, type_number: u8) -> Scope
+    pub(crate) fn declare(self, name: u32, type_number: u8) -> Scope
         requires { type_number < 4 }
         ensures { result ≡ declared self name type_number }
     {

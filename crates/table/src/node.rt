@@ -4,6 +4,7 @@
 pub const NONE: u16 = 65_535;
 
 // A node's record: whether it is in use, its production and literal, its parent and the nodes at its three child places.
+// Plain fields, and no Option: records lie in memory that the caller lends, which may hold anything, and a damaged record has to be told from a whole one.
 #[derive(Clone, Copy, PartialEq, Eq)]
 pub struct Node {
     pub used: bool,
