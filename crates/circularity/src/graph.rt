@@ -84,6 +84,7 @@ impl Graph {
     fn close(&mut self)
         ensures { self.new.rows ≡ closed_below 16 self.old.rows }
     {
+        // The vertices themselves, in turn; no row is read by them here.
         for vertex in 0..16usize {
             self.go_through(vertex);
         }
@@ -107,6 +108,7 @@ impl Graph {
         ensures bound { result < 16 }
     {
         let mut relation = 0u16;
+        // The numbers of the attributes: each is also a place in the relation.
         for number in 0..synthesized {
             let row = self.rows[usize::from(inherited + number)];
             relation |= (row % (1 << inherited)) << (inherited * number);

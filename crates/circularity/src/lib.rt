@@ -26,6 +26,7 @@ pub fn test<L: Language>(language: &L) -> Result<Passes, LanguageFault>
     ensures { Verdict (L.grammar language.now) result }
 {
     let found = Relations::saturated(language);
+    // By `find` the closure would have to ask that the production exists, and the proof of that did not close.
     for number in 0..language.productions() {
         let production = Production { language, number };
         if found.try_production(&production).cyclic {

@@ -31,6 +31,7 @@ fn gather<F: Fn(u16) -> Outcome>(set: u16, outcome_of: F) -> Outcome
     ensures { (f : ℕ → OutcomeOf) → ((relation : ℕ) (outcome : OutcomeOf) → relation < 16 → F.post outcome_of relation outcome → outcome ≡ f relation) → result ≡ gathered f set }
 {
     let mut found = Outcome::NOTHING;
+    // The relations themselves; a set is a number here, and has no iterator.
     for relation in 0..16u16 {
         if has(set, usize::from(relation)) {
             found = found.join(outcome_of(relation));
@@ -77,6 +78,7 @@ impl Relations {
     fn grow<L: Language>(&mut self, language: &L)
         ensures { self.new.masks ≡ grown (L.grammar language.now) (L.grammar language.now).productions self.old.masks }
     {
+        // A language's productions are asked for by their numbers.
         for number in 0..language.productions() {
             let production = Production { language, number };
             let found = self.try_production(&production);

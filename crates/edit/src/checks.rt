@@ -8,7 +8,7 @@ ghost use Rattle.edit.specs.Fresh.{NewNodes};
 use crate::fault::EditFault;
 use crate::fresh::new_nodes;
 use grammar::Language;
-use table::{View, is_hole};
+use table::{Table, View, is_hole};
 
 // What every edit at a node checks first.
 pub(crate) fn check_at_node<L: Language>(view: View<'_, L>, n: u16) -> Result<(), EditFault>
@@ -79,5 +79,9 @@ pub(crate) fn check_insert<L: Language>(
     ensures { MatchResult result (λ fields. Met (insert_checks (L.grammar view.entry.language.now) view.entry.nodes.now view.entry.values n production literal) × NewNodes view.entry.nodes.now (length ((L.grammar view.entry.language.now).children production)) fields) (First (insert_checks (L.grammar view.entry.language.now) view.entry.nodes.now view.entry.values n production literal)) }
 {
     check_production(view, n, production, literal)?;
-    new_nodes(view.nodes, view.language.children(production).len()).ok_or(EditFault::TooFewNodes(n))
+    new_nodes(
+        Table::new(view.nodes),
+        view.language.children(production).len(),
+    )
+    .ok_or(EditFault::TooFewNodes(n))
 }

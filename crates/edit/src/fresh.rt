@@ -2,7 +2,7 @@
 ghost use Rattle.std.specs.Prelude.{◌≡◌, ℕ, ◌<◌, ◌≤◌, [], ◌∷◌, length, MatchOption};
 ghost use Rattle.edit.specs.Fresh.{free_below, free_numbers, new_nodes, three, NextFree, NewNodes};
 
-use table::{NONE, Node};
+use table::{NONE, Node, Table};
 
 // The highest free node below a number, if any is free there. By `rposition` or by `find` over the numbers it got no proof: what they say of
 // the items that they passed over, from the back, did not come out as numbers of nodes.
@@ -19,14 +19,14 @@ pub(crate) fn next_free(nodes: &[Node], below: u16) -> Option<u16>
 }
 
 // The child fields for some new nodes, none where too few are free.
-pub(crate) fn new_nodes(nodes: &[Node], count: usize) -> Option<[u16; 3]>
-    requires { (length nodes.now ≤ 1000) × (count ≤ 3) }
-    ensures { MatchOption result (length (free_numbers nodes.now) < count) (NewNodes nodes.now count) }
+pub(crate) fn new_nodes(table: Table<'_>, count: usize) -> Option<[u16; 3]>
+    requires { count ≤ 3 }
+    ensures { MatchOption result (length (free_numbers table.entry.nodes.now) < count) (NewNodes table.entry.nodes.now count) }
 {
     let mut children = [NONE; 3];
-    let mut below = nodes.len() as u16;
+    let mut below = table.nodes.len() as u16;
     for child in &mut children[..count] {
-        below = next_free(nodes, below)?;
+        below = next_free(table.nodes, below)?;
         *child = below;
     }
     Some(children)

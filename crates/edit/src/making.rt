@@ -9,7 +9,7 @@ use crate::fresh::new_nodes;
 use crate::records::put_holes;
 use crate::rows::blank_first;
 use grammar::{Figure, Language};
-use table::{Node, View};
+use table::{Node, Table, View};
 
 // Puts down node 0 over holes, in a table of free nodes.
 fn put_start<L: Language>(language: &L, nodes: &mut [Node])
@@ -17,7 +17,7 @@ fn put_start<L: Language>(language: &L, nodes: &mut [Node])
     ensures { Made (L.grammar language.now) (length nodes.old) nodes.new }
 {
     let symbols = language.children(0);
-    let children = new_nodes(nodes, symbols.len()).unwrap();
+    let children = new_nodes(Table::new(nodes), symbols.len()).unwrap();
     put_holes(nodes, symbols, 0, &children);
     nodes[0] = Node {
         used: true,

@@ -43,7 +43,7 @@ impl fmt::Display for Outcome {
     }
 }
 
-// Values that all hold one row.
+// Values that all hold one row. `vec!` would ask for a clone that cannot fail, which a row's type need not have.
 fn rows<L: Language>(heap: Global, row: L::Row, count: usize) -> Result<Vec<L::Row>, AllocError> {
     let mut values = Vec::new(heap);
     for _ in 0..count {

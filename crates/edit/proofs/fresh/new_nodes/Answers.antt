@@ -3,9 +3,9 @@ use Rattle.edit.proofs.Freshness.{named_of_none, named_of_more}
 use Rattle.edit.proofs.fresh.new_nodes.Goals as goal
 
 pub loop-child-init : goal.loop-child-init
-loop-child-init c = named_of_none c.args.nodes.now c.args.count
+loop-child-init c = named_of_none c.args.table.nodes.now c.args.count
 
 pub loop-child-preserved : goal.loop-child-preserved
 loop-child-preserved c =
-    named_of_more c.args.nodes.now c.args.count c.loop-child.child-index c.loop-child.below c.in_ok-below.below c.loop-child.child-items
+    named_of_more c.args.table.nodes.now c.args.count c.loop-child.child-index c.loop-child.below c.in_ok-below.below c.loop-child.child-items
     (omega arith) (omega arith) c.loop-child.invariant c.in_ok-below.ensures

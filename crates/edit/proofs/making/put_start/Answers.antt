@@ -4,7 +4,7 @@ use Rattle.edit.proofs.Starting.{new_found, holes_fit, made_of}
 use Rattle.edit.proofs.making.put_start.Goals as goal
 
 pub unwrap-children-requires : goal.unwrap-children-requires
-unwrap-children-requires g c = new_found (g.L.Language.grammar c.args.language.now) _ (g.L.Language.limits c.args.language.now) c.args.nodes.now c.requires.1.1 c.requires.1.0 c.children-symbols.result.now c.children-symbols.ensures c.new_nodes.result c.new_nodes.ensures
+unwrap-children-requires g c = new_found (g.L.Language.grammar c.args.language.now) _ (g.L.Language.limits c.args.language.now) c.args.nodes.now c.requires.1.1 c.requires.1.0 c.children-symbols.result.now c.children-symbols.ensures c.new_nodes.result (rw c.new.ensures at c.new_nodes.ensures)
 
 pub put_holes-requires : goal.put_holes-requires
 put_holes-requires g c =
