@@ -31,6 +31,7 @@ impl<'a> Table<'a> {
         ensures { MatchOption result ((top : ℕ) → Climb self.entry.nodes.now top n → ⊥) (λ top. Climb self.entry.nodes.now top n) }
     {
         let mut reached = n;
+        // The count bounds the steps; no node is reached by it.
         for _step in 0..self.nodes.len() {
             let parent = used_node(self.nodes, reached)?.parent;
             if parent == NONE {
