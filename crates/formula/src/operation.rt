@@ -1,4 +1,4 @@
-// The operations by which rules compute, and what each gives.
+// The operations by which rules compute, and what each gives. An enum and no closures, since the table of rules names them and definitions speak of them.
 ghost use Rattle.std.specs.Prelude.{◌≡◌};
 ghost use Rattle.grammar.specs.Values.{meanings};
 ghost use Rattle.formula.specs.Readings.{blank};

@@ -1,4 +1,5 @@
-// What the rules of price formulas compute: each is a small function of figures.
+// What the rules of price formulas compute: each is a small function of figures. Four have one shape, in two lines each; with the operation handed to
+// one function as a closure, product and quotient got no proof.
 ghost use Rattle.std.specs.Prelude.{◌≡◌};
 ghost use Rattle.formula.specs.Readings.{as_reading};
 ghost use Rattle.formula.specs.Rules.{numbers as numbers_of, sum as sum_of, difference as difference_of, product as product_of, quotient as quotient_of, choose as choice_of};

@@ -29,7 +29,7 @@ impl Call {
         }
     }
 
-    // Makes the call. An accepted cut answers the number of the new hole, every other call nothing.
+    // Makes the call. An accepted cut answers the number of the new hole, every other call nothing. A match, as there are these calls and no others.
     pub fn perform<L: Language>(
         self,
         language: &L,
