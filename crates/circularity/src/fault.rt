@@ -58,9 +58,12 @@ impl fmt::Display for Refusal {
     ghost output = { λ refusal. Some (refusal_text refusal) };
 
     fn fmt<W: fmt::Write>(&self, f: &mut fmt::Formatter<W>) -> fmt::Result {
-        let number = self.number;
-        let layer = self.layer;
-        match self.named {
+        let Refusal {
+            number,
+            layer,
+            named,
+        } = *self;
+        match named {
             Some(named) => write!(f, "refused {number} {layer} {named}"),
             None => write!(f, "refused {number} {layer}"),
         }
@@ -75,6 +78,7 @@ pub trait Fault: Copy {
 
     ghost names_what: { Self → Option NamedOf };
 
+    // The number by which programs and documents call the fault; docs/REFERENCE.md lists them.
     fn number(self) -> u8
         ensures { result ≡ number_is self };
 

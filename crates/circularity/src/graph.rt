@@ -8,7 +8,7 @@ ghost use Rattle.circularity.specs.Working.{vertex as vertex_of, bits_of, parent
 use grammar::{Language, Occurrence};
 use std::array;
 
-// The relations chosen for the trees of a production's children, as numbers below 16; 0 where there is no child.
+// The relations chosen for the trees of a production's children, as numbers below 16; 0, the empty relation, where there is no child.
 pub(crate) type Choice = [u16; 3];
 
 // What choices of the children's relations give: the relations of the production's trees, as a set of bits, and whether there is a cycle. Each holds
@@ -70,7 +70,7 @@ impl Graph {
         if edges == 0 {
             return;
         }
-        // In place: an array's map takes twice the time.
+        // In place: an array's map takes twice the time. One write on either way, which the proof of the turn goes by.
         for row in &mut self.rows {
             *row = if has(*row, vertex) {
                 *row | edges

@@ -39,7 +39,11 @@ impl Fault for EditFault {
     fn layer(self) -> Layer {
         match self {
             EditFault::Table(fault) => fault.layer(),
-            _ => Layer::Edit,
+            EditFault::NoClipping
+            | EditFault::WrongPlace(_)
+            | EditFault::WrongSymbol(_)
+            | EditFault::LiteralRefused(_)
+            | EditFault::TooFewNodes(_) => Layer::Edit,
         }
     }
 

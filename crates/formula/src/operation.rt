@@ -30,7 +30,7 @@ impl Operation {
     pub fn apply(self, literal: i32, arguments: &Arguments<'_, QuantityRow>) -> Quantity
         ensures { result.reading ≡ gives self literal (meanings reading_of read blank arguments.now.rows.now arguments.now.at.now) }
     {
-        let argument = |place: usize| -> Quantity { arguments.value(place) };
+        let argument = |k: usize| -> Quantity { arguments.value(k) };
         match self {
             Operation::Nothing => Quantity::trouble(Trouble::Blank),
             Operation::Unbound => Quantity::trouble(Trouble::NothingBound),

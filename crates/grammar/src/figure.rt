@@ -31,7 +31,8 @@ pub trait Figure: Copy {
         ensures { means (reads result) ≡ means self };
 }
 
-// The arguments of a rule: the rows lent to a call, and the numbers of the rows that the rule takes, in order.
+// The arguments of a rule: the rows lent to a call, and the numbers of the rows that the rule takes, in order. They are loaded one by one when they are
+// asked for, since there is no heap here and an array of a language's own type has no size that is known.
 #[derive(Clone, Copy)]
 pub struct Arguments<'a, R> {
     pub rows: &'a [R],

@@ -33,11 +33,7 @@ impl From<PlanType> for u8 {
     ghost from_gives = { λ type_of number. number ≡ number_of_type type_of };
 
     fn from(type_of: PlanType) -> u8 {
-        match type_of {
-            PlanType::Unknown => 0,
-            PlanType::Number => 1,
-            PlanType::Truth => 2,
-        }
+        type_of as u8
     }
 }
 

@@ -6,7 +6,7 @@ use std::marker::Model;
 
 const NAMES: u32 = 32;
 
-// The entries that stand for no type.
+// The entries that stand for no type. Entries are numbers, as the word holds them in two bits: an enum would be converted on the way in and out.
 const UNDECLARED: u8 = 0;
 
 const DECLARED_TWICE: u8 = 3;

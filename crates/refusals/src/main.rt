@@ -28,14 +28,9 @@ fn laid(heap: Global, scene: &Scene) -> Result<Vec<Node>, AllocError> {
 }
 
 // Tries some calls, each on the same memory.
-fn try_each<L: Language>(
-    rt: &HostRuntime,
-    language: &L,
-    lent: &Lent<'_, L::Row>,
-    calls: &[Call],
-) -> io::Result<()> {
+fn try_each<L: Language>(rt: &HostRuntime, lent: &Lent<'_, L>, calls: &[Call]) -> io::Result<()> {
     for call in calls {
-        try_call(rt, language, lent, *call)?;
+        try_call(rt, lent, *call)?;
     }
     Ok(())
 }
@@ -51,11 +46,12 @@ fn play<L: Language>(
     println!(rt; "# {name}, {scene}")?;
     let nodes = laid(rt.alloc(), scene)?;
     let lent = Lent {
+        language,
         nodes: &nodes,
         values: scene.values,
         row,
     };
-    try_each(rt, language, &lent, scene.calls)
+    try_each(rt, &lent, scene.calls)
 }
 
 // Tries the scenes of one language.
@@ -74,7 +70,7 @@ fn play_all<L: Language>(
 
 // Tries every call but make on every damage.
 fn damaged(rt: &HostRuntime) -> io::Result<()> {
-    for damage in DAMAGES.iter() {
+    for damage in &DAMAGES {
         let scene = Scene {
             note: damage.what,
             records: &FORMULAS,

@@ -9,6 +9,28 @@ use crate::node::Node;
 use circularity::test;
 use grammar::Language;
 
+// Whether there are 1 to 1000 nodes, and four values for each.
+fn is_sized(nodes: usize, values: usize) -> bool
+    ensures { MatchBool result (Sized nodes values) (Sized nodes values → ⊥) }
+{
+    (1..=1000).contains(&nodes) && 4 * nodes <= values
+}
+
+// What every call checks first: the language, and the sizes of the lent memory.
+pub fn check_memory<L: Language>(
+    language: &L,
+    nodes: usize,
+    values: usize,
+) -> Result<(), TableFault>
+    ensures { Answer (memory (L.grammar language.now) nodes values) result }
+{
+    test(language)?;
+    if !is_sized(nodes, values) {
+        return Err(TableFault::Size);
+    }
+    Ok(())
+}
+
 // What a call sees of what it is lent: the language, the nodes, and how many values there are.
 #[derive_where(Clone, Copy)]
 pub struct View<'a, L> {
@@ -18,23 +40,12 @@ pub struct View<'a, L> {
 }
 
 impl<'a, L: Language> View<'a, L> {
-    // Whether there are 1 to 1000 nodes, and four values for each.
-    fn is_sized(self) -> bool
-        ensures { MatchBool result (Sized (length self.entry.nodes.now) self.entry.values) (Sized (length self.entry.nodes.now) self.entry.values → ⊥) }
-    {
-        let nodes = self.nodes.len();
-        (1..=1000).contains(&nodes) && 4 * nodes <= self.values
-    }
-
-    // What every call checks first: the language, and the sizes of the lent memory.
+    // What every call checks first, and the table of the nodes.
     pub fn check_memory(self) -> Result<Table<'a>, TableFault>
         ensures answer { Answer (memory (L.grammar self.entry.language.now) (length self.entry.nodes.now) self.entry.values) result }
         ensures table { IfOk result (λ table. table.nodes.now ≡ self.entry.nodes.now) }
     {
-        test(self.language)?;
-        if !self.is_sized() {
-            return Err(TableFault::Size);
-        }
+        check_memory(self.language, self.nodes.len(), self.values)?;
         Ok(Table::new(self.nodes))
     }
 

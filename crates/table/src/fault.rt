@@ -35,7 +35,10 @@ impl Fault for TableFault {
     fn layer(self) -> Layer {
         match self {
             TableFault::Language(fault) => fault.layer(),
-            _ => Layer::Table,
+            TableFault::Size
+            | TableFault::NoSheet
+            | TableFault::Buffer
+            | TableFault::NotOnSheet(_) => Layer::Table,
         }
     }
 
@@ -43,7 +46,7 @@ impl Fault for TableFault {
         match self {
             TableFault::Language(fault) => fault.names(),
             TableFault::NotOnSheet(node) => Some(Named::Node(node)),
-            _ => None,
+            TableFault::Size | TableFault::NoSheet | TableFault::Buffer => None,
         }
     }
 }

@@ -10,7 +10,7 @@ pub mod sheet_test;
 pub mod stack;
 pub mod trees;
 
-pub use checks::{View, check_buffer};
+pub use checks::{View, check_buffer, check_memory};
 pub use climb::{Table, is_clipping_root, is_used};
 pub use fault::TableFault;
 pub use node::{NONE, Node};

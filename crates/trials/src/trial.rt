@@ -10,12 +10,13 @@ use table::Node;
 // what stands in each entry of a waiting list before a call
 const UNWRITTEN: u16 = 777;
 
-// What a call is lent: records, and how many values, each of which holds the same row.
-#[derive(Clone, Copy)]
-pub struct Lent<'a, R> {
+// What a call is lent: the language, records, and how many values, each of which holds the same row.
+#[derive(Drop)]
+pub struct Lent<'a, L: Language> {
+    pub language: &'a L,
     pub nodes: &'a [Node],
     pub values: usize,
-    pub row: R,
+    pub row: L::Row,
 }
 
 // What a call answered, and how many records, values and entries of the waiting list differ after it. Of the waiting list only those
@@ -97,14 +98,13 @@ fn writable(answer: Result<Option<u16>, EditFault>, nodes: usize) -> usize {
 
 // Makes the call, and sees what differs.
 fn observe<L: Language>(
-    language: &L,
-    lent: &Lent<'_, L::Row>,
+    lent: &Lent<'_, L>,
     call: Call,
     nodes: &mut [Node],
     values: &mut [L::Row],
     waiting: &mut [u16],
 ) -> Outcome {
-    let answer = call.perform(language, nodes, values, waiting);
+    let answer = call.perform(lent.language, nodes, values, waiting);
     Outcome {
         answer,
         records: changed_records(lent.nodes, nodes),
@@ -116,12 +116,11 @@ fn observe<L: Language>(
 // The outcome of the call on a copy of what is lent.
 pub fn tried<L: Language>(
     heap: Global,
-    language: &L,
-    lent: &Lent<'_, L::Row>,
+    lent: &Lent<'_, L>,
     call: Call,
 ) -> Result<Outcome, AllocError> {
     let mut nodes = lent.nodes.to_vec(heap)?;
     let mut values = rows::<L>(heap, lent.row, lent.values)?;
     let mut waiting = unwritten(heap, call.waiting())?;
-    Ok(observe(language, lent, call, &mut nodes, &mut values, &mut waiting))
+    Ok(observe(lent, call, &mut nodes, &mut values, &mut waiting))
 }

@@ -28,6 +28,7 @@ fn give_up(
         clipping,
         fault: _,
     } = refused;
+    // The clipping is spent whatever the answer; where it is a refusal, its nodes stay.
     let _ = discard(&Formula, nodes, values, &sheet, clipping, waiting);
     sheet
 }

@@ -14,7 +14,7 @@ pub fn retype_once(
     Ok(retype(&Formula, nodes, values, sheet, node, literal)?.sheet)
 }
 
-// Gives a node another literal, or else a third.
+// Gives a node the first of two literals, or the second where the first is refused.
 pub fn retype_or(
     nodes: &mut [Node],
     values: &mut [QuantityRow],
