@@ -1,3 +1,4 @@
+pub mod Placed
 pub mod Hanging
 pub mod Forest
 pub mod Swapping

@@ -19,6 +19,7 @@ pub(crate) fn check_at_node<L: Language>(view: View<'_, L>, n: u16) -> Result<()
 }
 
 // What retype checks.
+#[tactic(auto, using(crate::proofs::Placed::lies_inside))]
 pub(crate) fn check_retype<L: Language>(
     view: View<'_, L>,
     n: u16,
@@ -46,6 +47,7 @@ fn is_fitting<L: Language>(language: &L, other: u8, production: u8) -> bool
 }
 
 // What insert checks before it looks for free nodes.
+#[tactic(auto, using(crate::proofs::Placed::lies_inside))]
 fn check_production<L: Language>(
     view: View<'_, L>,
     n: u16,

@@ -55,6 +55,7 @@ fn check_symbol<L: Language>(view: View<'_, L>, root: u16, n: u16) -> Result<(),
 }
 
 // What exchange checks.
+#[tactic(auto, using(crate::proofs::Placed::lies_inside))]
 pub(crate) fn check_exchange<L: Language>(
     view: View<'_, L>,
     root: u16,
@@ -68,6 +69,7 @@ pub(crate) fn check_exchange<L: Language>(
 }
 
 // What paste checks.
+#[tactic(auto, using(crate::proofs::Placed::lies_inside))]
 pub(crate) fn check_paste<L: Language>(
     view: View<'_, L>,
     root: u16,

@@ -25,6 +25,7 @@ fn check_cut<L: Language>(view: View<'_, L>, n: u16) -> Result<u16, EditFault>
 }
 
 // Cuts the subtree at a node out; answers the number of the hole in its place.
+#[tactic(auto, using(crate::proofs::Placed::lies_inside))]
 pub fn cut<L: Language>(
     language: &L,
     nodes: &mut [Node],

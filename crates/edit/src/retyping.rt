@@ -18,6 +18,7 @@ fn set_literal(nodes: &mut [Node], n: u16, literal: i32)
 }
 
 // Gives a node on the sheet another literal, which its production must accept.
+#[tactic(auto, using(crate::proofs::Placed::lies_inside))]
 pub fn retype<L: Language>(
     language: &L,
     nodes: &mut [Node],

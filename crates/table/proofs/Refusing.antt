@@ -4,10 +4,6 @@ use Rattle.std.proofs.Common.{◌≡◌, List, [], ◌∷◌, ◌++◌, IsErrAnd
 use Rattle.table.specs.Refusals.{Check, Met, First, lifted, Answer}
 
 module _ {F : Type 0} where
-  pub met_both : (cs ds : List (Check F)) → Met cs → Met ds → Met (cs ++ ds)
-  met_both [] ds m n = n
-  met_both (c ∷ cs) ds m n = (m.0, met_both cs ds m.1 n)
-
   -- a fault of the first part is one of the whole
   pub first_front : (cs ds : List (Check F)) (f : F) → First cs f → First (cs ++ ds) f
   first_front [] ds f r = absurd r

@@ -1,9 +1,5 @@
-use Rattle.table.proofs.Climbs.{climb_used}
 use Rattle.edit.proofs.CutDone.{hole_hangable, cut_done}
 use Rattle.edit.proofs.cutting.cut.Goals as goal
-
-pub bounds-nodes-node : goal.bounds-nodes-node
-bounds-nodes-node g c = (climb_used c.args.nodes.now 0 c.args.node c.in_ok-hole.ensures.0.1.1.1.0).0
 
 pub hang-requires : goal.hang-requires
 hang-requires g c =

@@ -1,11 +1,7 @@
 use Rattle.std.proofs.Common.{to_z-of_z}
 use Rattle.table.proofs.Members.{at_most_three}
-use Rattle.table.proofs.Under.{climb_used}
 use Rattle.edit.proofs.Relabelling.{retype_done}
 use Rattle.edit.proofs.retyping.retype.Goals as goal
-
-pub set_literal-requires : goal.set_literal-requires
-set_literal-requires g c = let m = c.in_ok-check_retype.ensures in (climb_used m.1.1.1.0).0
 
 pub returns : goal.returns
 returns g c =
