@@ -70,7 +70,7 @@ impl Graph {
         if edges == 0 {
             return;
         }
-        // In place: an array's map takes twice the time. One write on either way, which the proof of the turn goes by.
+        // In place: an array's map takes twice the time. One write on either way, which the proof goes by.
         for row in &mut self.rows {
             *row = if has(*row, vertex) {
                 *row | edges

@@ -1,5 +1,5 @@
 // The checks of the edits that put a clipping in a node's place. Those of paste and exchange differ in one; with that one handed in as a closure, the
-// contract would have to speak of any check.
+// contract would have to speak of any check. That the node lies in the table is asked for: a type that carries it would be made for three calls.
 ghost use Rattle.std.specs.Prelude.{◌<◌, [], ◌∷◌, length};
 ghost use Rattle.table.specs.Refusals.{Answer};
 ghost use Rattle.edit.specs.Checks.{hole_at, no_hole_at, same_symbol, with_a_clipping, exchange_checks, paste_checks};

@@ -21,6 +21,7 @@ fn gather(table: Table<'_>, root: u16, slots: &mut [u16]) -> usize
     requires { length table.nodes.now ≤ length slots.old }
     ensures { Gathered table.entry.nodes.now root (length table.entry.nodes.now) slots.old slots.new result }
 {
+    // By a chain over the slots, a map would run for its writes alone, and be no plainer.
     let mut count = 0;
     for n in 0..table.nodes.len() {
         if climbs_to(table, root, n as u16) {

@@ -1,6 +1,7 @@
 // The work of the calls that change a sheet, on records and rows: make, insert, cut, paste, exchange, retype and discard.
-// Records and rows are two slices that the caller lends, and stay two parameters: a struct of both would be made anew for each call, and one that is
-// lent itself could be left holding other slices.
+// Records and rows are two slices that the caller lends, and stay two parameters: a struct of both, lent for writing, could be left holding other slices,
+// and each contract would have to say that it is not. What a row means stands in the clauses by two members of the figure's bound; as a third, each
+// language's figure would have to give it once more.
 #![tactic(auto)]
 
 mod checks;

@@ -34,7 +34,7 @@ const CHOOSE: u8 = 8;
 
 const LET: u8 = 9;
 
-// The symbols: sheets and expressions.
+// The symbols, by their numbers in the interface: sheets and expressions.
 const S: u8 = 0;
 
 const E: u8 = 1;

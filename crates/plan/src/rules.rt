@@ -6,7 +6,7 @@ ghost use Rattle.plan.specs.Scope.{declared};
 use crate::figure::PlanType;
 use crate::scope::Scope;
 
-// stands for every negative literal: no name has this number, or a quarter of it
+// stands for every negative literal: no name has this number, or a quarter of it; a number and no Option, since the rules divide it as any other
 const NO_NAME: u32 = 128;
 
 // The number that a literal stands for.

@@ -154,7 +154,7 @@ const EACH_ON_FORMULAS: [Call; 7] = [
     Call::Discard(13, 16),
 ];
 
-// the same but make, which needs no sheet
+// the same but make, which needs no sheet; written out, as lists of a test are
 pub const ON_FORMULAS: [Call; 6] = [
     Call::Insert(10, 2, 5),
     Call::Cut(14),

@@ -2,7 +2,7 @@
 use std::alloc::{AllocError, Global};
 use table::{NONE, Node};
 
-// A record to be laid: a node, its production, literal, parent and children. Two cases and no flag, so that each record of the tables below is one line.
+// A record to be laid: a node, its production, literal, parent and children. Two cases and no flag: `Used` and `Free` read better below than a bool among the numbers.
 #[derive(Clone, Copy)]
 pub enum Laid {
     Used(usize, u8, i32, u16, [u16; 3]),

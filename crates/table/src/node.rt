@@ -1,10 +1,11 @@
 // One node of a table.
 
-// The number that stands for no node.
+// The number that stands for no node: a rule of the records' format, in which nodes go by 16-bit numbers.
 pub const NONE: u16 = 65_535;
 
 // A node's record: whether it is in use, its production and literal, its parent and the nodes at its three child places.
-// Plain fields, and no Option: records lie in memory that the caller lends, which may hold anything, and a damaged record has to be told from a whole one.
+// Plain fields, and records that name each other by number: the table is a slice that the caller lends, with no heap behind it, and what it holds may be
+// damaged, a free record with a production as well as a used one without, and has to be told from what is whole.
 #[derive(Clone, Copy, PartialEq, Eq)]
 pub struct Node {
     pub used: bool,

@@ -20,7 +20,7 @@ impl Node {
         *self == Node::FREE
     }
 
-    // Whether exactly one of the first child places names node n.
+    // Whether exactly one of the first child places names node n; how many there are is the production's word, and a record has three.
     pub(crate) fn names_once(&self, count: usize, n: u16) -> bool
         requires { count ≤ 3 }
         ensures { MatchBool result (Once self.now count n) (Once self.now count n → ⊥) }

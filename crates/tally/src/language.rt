@@ -10,7 +10,7 @@ use grammar::{Arguments, Language, Occurrence, Piece};
 #[derive(Clone, Copy)]
 pub struct Tally;
 
-// The symbol of items; that of sheets is 0.
+// The symbol of items, by its number in the interface; that of sheets is 0.
 const ITEM: u8 = 1;
 
 // The productions: numbers and no enum, since each question answers for every byte.
