@@ -1,9 +1,6 @@
 use Rattle.std.proofs.Common.{arith}
-use Rattle.edit.proofs.Freshness.{named_of_none, named_of_more}
+use Rattle.edit.proofs.Freshness.{named_of_more}
 use Rattle.edit.proofs.fresh.new_nodes.Goals as goal
-
-pub loop-child-init : goal.loop-child-init
-loop-child-init c = named_of_none c.args.table.nodes.now c.args.count
 
 pub loop-child-preserved : goal.loop-child-preserved
 loop-child-preserved c =
