@@ -1,24 +1,9 @@
--- The free nodes below a number, one by one, and the child fields that name the first of them.
-use Rattle.std.proofs.Common.{◌≡◌, ℕ, zero, suc, ◌+◌, ◌-◌, ◌<◌, ◌≤◌, true, false, List, [], ◌∷◌, length, take, drop, set, sym, refl, ap, ◌∙◌, arith, length-set}
+-- The child fields that name the first of the free nodes, one by one.
+use Rattle.std.proofs.Common.{◌≡◌, ℕ, zero, suc, ◌+◌, ◌<◌, ◌≤◌, List, [], ◌∷◌, length, take, drop, set, sym, ap, ◌∙◌, arith, length-set}
 use Rattle.std.proofs.lemmas.List.{length-take-le}
 use Rattle.std.proofs.Math.Seq.{take-set-lt}
 use Rattle.table.specs.declared.node.Node.{Node}
-use Rattle.table.specs.Nodes.{none, at}
 use Rattle.edit.specs.Fresh.{free_below, free_numbers, three, NextFree}
-
--- One node down from n: a free node is the next below, a used one is passed over.
-module _ (ns : List Node) (below n : ℕ) (some : 0 < n) (so_far : free_below ns below ≡ free_below ns n) where
-  opened : free_below ns n ≡ free_below ns (suc (n - 1))
-  opened = let e : n ≡ suc (n - 1) = omega arith in ap (free_below ns) e
-
-  pub next_here : n ≤ below → (at ns (n - 1)).used ≡ false → NextFree ns below (n - 1)
-  next_here h e = record { lower = omega arith; free = e; first = so_far ∙ opened ∙ rw (e, free_below) }
-
-  pub next_lower : (at ns (n - 1)).used ≡ true → free_below ns below ≡ free_below ns (n - 1)
-  next_lower e = so_far ∙ opened ∙ rw (e, free_below)
-
-pub none_left : (ns : List Node) (below n : ℕ) → n ≤ 0 → free_below ns below ≡ free_below ns n → free_below ns below ≡ []
-none_left ns below n h e = let z : n ≡ 0 = omega arith in e ∙ ap (free_below ns) z
 
 never_nil : (n : ℕ) (rest : List ℕ) → [] ≡ n ∷ rest → ⊥
 never_nil n rest e = let z : ◌≡◌ {A = ℕ} 0 1 = cc in omega arith
@@ -48,9 +33,6 @@ pub record Named (ns : List Node) (k below : ℕ) (fields : List ℕ) : Type 0 w
   pub remain : drop k (free_numbers ns) ≡ free_below ns below
   pub fields_are : fields ≡ three (take k (free_numbers ns))
 
-pub named_none : (ns : List Node) → Named ns 0 (length ns) (none ∷ none ∷ none ∷ [])
-named_none ns = record { inside = omega arith; enough = omega arith; remain = refl; fields_are = refl }
-
 pub named_more : (ns : List Node) (k below n : ℕ) (fields : List ℕ) → k < 3 → Named ns k below fields → NextFree ns below n → Named ns (k + 1) n (set fields k n)
 named_more ns k below n fields h named next =
     let more = one_more (free_numbers ns) k n (free_below ns n) h (named.remain ∙ next.first) in
@@ -62,9 +44,6 @@ pub record NamedOf (ns : List Node) (count k below : ℕ) (fields : List ℕ) : 
   pub named : Named ns k below all
   pub part : fields ≡ take count all
   pub size : length all ≡ 3
-
-pub named_of_none : (ns : List Node) (count : ℕ) → NamedOf ns count 0 (length ns) (take count (none ∷ none ∷ none ∷ []))
-named_of_none ns count = record { all = none ∷ none ∷ none ∷ []; named = named_none ns; part = refl; size = refl }
 
 pub named_of_more : (ns : List Node) (count k below n : ℕ) (fields : List ℕ) → count ≤ 3 → k < length fields → NamedOf ns count k below fields → NextFree ns below n → NamedOf ns count (k + 1) n (set fields k n)
 named_of_more ns count k below n fields few h so_far next = record {

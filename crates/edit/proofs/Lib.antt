@@ -1,5 +1,4 @@
 pub mod Placed
-pub mod Hanging
 pub mod Forest
 pub mod Swapping
 pub mod HungRecords
