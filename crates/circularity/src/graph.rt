@@ -19,7 +19,8 @@ pub(crate) struct Outcome {
     pub cyclic: bool,
 }
 
-// Whether a bit is set.
+// Whether a bit is set. That a bit or a vertex is below 16 is asked for, here and below: each comes out of a range or an array of 16, and a type of its
+// own would be made and taken apart at each use.
 pub(crate) fn has(bits: u16, bit: usize) -> bool
     requires { bit < 16 }
     ensures { result ≡ has_bit bits bit }

@@ -13,7 +13,7 @@ use crate::rows::blank_node;
 use grammar::Language;
 use table::{Node, View};
 
-// Gives a node another production, literal and children.
+// Gives a node another production, literal and children. That the node lies in the table is asked for: a type that carries it would be made for this call.
 fn set_production(nodes: &mut [Node], n: u16, production: u8, literal: i32, children: [u16; 3])
     requires { n < length nodes.old }
     ensures { nodes.new ≡ slice_set nodes.old n (with_production (record_at nodes.old n) production literal children) }

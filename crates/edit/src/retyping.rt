@@ -9,7 +9,7 @@ use crate::fault::EditFault;
 use grammar::Language;
 use table::{Node, View};
 
-// Gives a node another literal.
+// Gives a node another literal. That the node lies in the table is asked for, as in insert.
 fn set_literal(nodes: &mut [Node], n: u16, literal: i32)
     requires { n < length nodes.old }
     ensures { nodes.new ≡ slice_set nodes.old n (with_literal (record_at nodes.old n) literal) }

@@ -15,7 +15,8 @@ pub fn is_hole<L: Language>(language: &L, production: u8) -> bool
     production != 0 && production < language.symbols()
 }
 
-// A node of a table, and the language that it is tested by.
+// A node of a table, and the language that it is tested by. That the node is in use is asked for by the tests that `is_good` goes on to where it is: a
+// type for a used node would be made there alone.
 #[derive(Drop)]
 struct Entry<'a, L> {
     language: &'a L,
