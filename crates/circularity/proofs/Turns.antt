@@ -1,8 +1,9 @@
--- One turn of the closure of a graph.
-use Rattle.std.proofs.Common.{◌≡◌, ℕ, Bool, true, false, List, get_or, sym, refl, ap, ◌∙◌}
+-- One turn of the closure of a graph, and how many rows the closure has.
+use Rattle.std.proofs.Common.{◌≡◌, ℕ, zero, suc, Bool, true, false, List, length, get_or, sym, refl, ap, ◌∙◌}
 use lib.Bits.{bit_or, or_zero_r}
+use Rattle.std.proofs.lemmas.List.{length-map}
 use Rattle.std.proofs.lemmas.List.Folds.{map_fixed}
-use Rattle.circularity.specs.Bits.{has, through}
+use Rattle.circularity.specs.Bits.{has, through, closed_below}
 
 -- what one turn of the closure makes of a row
 abbrev pub taken : List ℕ → ℕ → ℕ → ℕ
@@ -15,3 +16,8 @@ through_nothing m start none = sym (map_fixed (taken start m) start (λ k d insi
     unchanged : (row : ℕ) (b : Bool) → elim b [ true ↦ bit_or row (get_or start m 0) | false ↦ row ] ≡ row
     unchanged row true = ap (bit_or row) none ∙ or_zero_r row
     unchanged row false = refl
+
+-- the closure has as many rows
+pub closed_length : (m : ℕ) (start : List ℕ) → length (closed_below m start) ≡ length start
+closed_length zero start = refl
+closed_length (suc m) start = length-map (closed_below m start) (taken (closed_below m start) m) ∙ closed_length m start

@@ -15,6 +15,7 @@ pub mod ExchangeDone
 pub mod OneRecord
 pub mod PasteDone
 pub mod Editing
+pub mod Relayed
 pub mod Checking
 pub mod NewNodes
 pub mod Filled

@@ -1,5 +1,5 @@
 -- The table that make leaves is a sheet, with production 0 over holes under node 0 and nothing else.
-use Rattle.std.proofs.Common.{◌≡◌, ℕ, zero, suc, ◌+◌, ◌-◌, ◌*◌, ◌<◌, ◌≤◌, Bool, true, false, List, [], ◌∷◌, length, get_or, pos, sym, refl, ap, ◌∙◌, subst, inl, inr, arith}
+use Rattle.std.proofs.Common.{◌≡◌, ℕ, zero, suc, ◌+◌, ◌-◌, ◌*◌, ◌<◌, ◌≤◌, Bool, true, false, List, [], ◌∷◌, length, get_or, take, pos, sym, refl, ap, ◌∙◌, subst, inl, inr, arith}
 use Rattle.grammar.specs.Grammar.{Grammar, child}
 use Rattle.grammar.specs.Limits.{Limits}
 use Rattle.grammar.specs.Text.{Segment}
@@ -10,7 +10,7 @@ use Rattle.table.specs.Climbing.{ends, goes_on}
 use Rattle.table.specs.Sheets.{Sheet, Good, InOrder, ChildAt, OneChildOf, root, below}
 use Rattle.table.specs.Represents.{Represents}
 use Rattle.table.proofs.Reading.{below_or_not}
-use Rattle.edit.specs.Fresh.{hole_record, three}
+use Rattle.edit.specs.Fresh.{free_below, new_nodes, hole_record, three}
 use Rattle.edit.specs.Memory.{BlankedFirst}
 use Rattle.edit.specs.Edits.{highest, Made}
 use Rattle.edit.specs.Calls.{hole_tree, hole_trees, hole_at_place, MakeWork}
@@ -187,3 +187,15 @@ make_work g text limits meaning nothing before middle after values values' few r
 step : (b : Bool) (n : ℕ) (xs : List ℕ) → b ≡ false → elim b [ true ↦ xs | false ↦ n ∷ xs ] ≡ n ∷ xs
 step true n xs e = absurd (let z : ◌≡◌ {A = ℕ} 0 1 = cc in omega arith)
 step false n xs e = refl
+
+-- The highest numbers are the new nodes of a table in which node 0 is used and all others are free.
+pub highest_are_new : (ns : List Node) → (at ns 0).used ≡ true → ((n : ℕ) → 0 < n → n < length ns → (at ns n).used ≡ false) → (k : ℕ) → k < length ns → highest (length ns) k ≡ new_nodes ns k
+highest_are_new ns start free k h = go (length ns) k h (omega arith)
+  where
+    go : (n k : ℕ) → k < n → n ≤ length ns → highest n k ≡ take k (free_below ns n)
+    go zero k h l = absurd (omega arith)
+    go (suc n) zero h l = refl
+    go (suc n) (suc k) h l =
+        let e : suc n - 1 ≡ n = omega arith in
+        let next : free_below ns (suc n) ≡ n ∷ free_below ns n = step (at ns n).used n (free_below ns n) (free n (omega arith) (omega arith)) in
+        ap (λ i. i ∷ highest i k) e ∙ ap (λ xs. n ∷ xs) (go n k (omega arith) (omega arith)) ∙ ap (λ xs. take (suc k) xs) (sym next)

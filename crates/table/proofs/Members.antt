@@ -66,6 +66,10 @@ module _ (g : Grammar) (ns : List Node) (sheet : Sheet g ns) (few : length ns �
     under_member t n r {x} (itself u e) = subst (λ (i : ℕ). In i (numbers t)) (sym e) (root_in ns n t (never_none ns few n (subst (λ (i : ℕ). Used ns i) e u)) r)
     under_member t n r {x} (up k u e w) = child_in x k u e (under_used w) t n r (under_member t n r w)
 
+    -- the tree under a node has exactly the nodes under it
+    pub members_under : (t : Tree) (n : ℕ) → Represents ns n t → (x : ℕ) → (In x (numbers t) → Under ns n x) × (Under ns n x → In x (numbers t))
+    members_under t n r x = (member_under x t n r, under_member t n r)
+
     -- the tree under a node without parent has exactly the nodes whose climb ends there
     pub members : (t : Tree) (n : ℕ) → Represents ns n t → (at ns n).parent ≡ Nodes.none → (x : ℕ) → (In x (numbers t) → Climb ns n x) × (Climb ns n x → In x (numbers t))
     members t n r e x = (λ i. under_climb e (member_under x t n r i), λ c. under_member t n r (climb_under c))

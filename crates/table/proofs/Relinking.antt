@@ -8,7 +8,7 @@ use Rattle.table.specs.Nodes.{at, child_field, Used}
 use Rattle.table.specs.Sheets.{Sheet}
 use Rattle.table.specs.Represents.{Represents, numbers, In, replace}
 use Rattle.table.proofs.Reading.{in_order, never_none, used_child}
-use Rattle.table.proofs.Places.{tree_induction, represented_at, in_place, root_used}
+use Rattle.table.proofs.Places.{tree_induction, represented_at, in_place, at_place, root_used}
 use Rattle.table.proofs.Frame.{Kept}
 use Rattle.table.proofs.Under.{Under, itself, up, Depth, under_used, depth_of, none_both_ways, under_both_ways}
 use Rattle.table.proofs.Members.{member_under}
@@ -48,6 +48,19 @@ module _ (g : Grammar) (ns : List Node) (sheet : Sheet g ns) (few : length ns �
       lower n i m e other above u k h v (itself u' f) = sym f
       lower n i m e other above u k h v (up j u' f z) =
           absurd (other (e ∙ sym (above (subst (λ (y : ℕ). Under ns m y) (sym f ∙ (used_child sheet few n u k h v).1.parent) z))))
+
+  -- a node of the tree that does not lie under m stands around m's subtree
+  pub around_all : (m x : ℕ) → (Under ns m x → ⊥) → (t : Tree) (n : ℕ) → Represents ns n t → In x (numbers t) → In x (around m t)
+  around_all m x out = tree_induction (λ t. (n : ℕ) → Represents ns n t → In x (numbers t) → In x (around m t)) (λ n r i. i)
+      (λ i p l a b c again n r q. elim (eqb_tells i m) [
+        | inl h ↦ absurd (out (subst (λ (j : ℕ). Under ns j x) (sym r.0 ∙ h.1) (member_under g ns sheet few x (node i p l a b c) n r q)))
+        | inr h ↦ subst (λ (xs : List ℕ). In x xs) (sym (around_there m i p l a b c h.0)) (elim q [
+          | inl e ↦ inl e
+          | inr j ↦
+              let at_k = in_place x numbers i p l a b c j in
+              inr (at_place x (around m) i p l a b c at_k.0 at_k.1 (again at_k.0 (child_field (at ns n) at_k.0) (represented_at ns n i p l a b c r at_k.0 at_k.1) at_k.2))
+        ])
+      ])
 
   -- a number of a tree does not lie above it
   pub not_above : (m : ℕ) (t : Tree) (n : ℕ) → Represents ns n t → In m (numbers t) → Under ns m n → m ≡ n

@@ -68,6 +68,56 @@ around_in x m = tree_induction (λ t. In x (around m t) → In x (numbers t)) (�
           ]
     ])
 
+-- the numbers of the new tree are those around the subtree and those of what replaced it
+pub replaced_numbers : (x m : ℕ) (u t : Tree) → In x (numbers (replace m u t)) → In x (around m t) ⊎ In x (numbers u)
+replaced_numbers x m u = tree_induction (λ t. In x (numbers (replace m u t)) → In x (around m t) ⊎ In x (numbers u)) (λ i. inl i)
+    (λ n p l a b c again i. elim (eqb_tells n m) [
+      | inl h ↦ inr (subst (λ (s : Tree). In x (numbers s)) (replace_here m n p l a b c u h.0) i)
+      | inr h ↦
+          let cases : (x ≡ n) ⊎ In x (numbers (replace m u a) ++ (numbers (replace m u b) ++ numbers (replace m u c))) = subst (λ (s : Tree). In x (numbers s)) (replace_there m n p l a b c u h.0) i in
+          subst (λ (xs : List ℕ). In x xs ⊎ In x (numbers u)) (sym (around_there m n p l a b c h.0)) (elim cases [
+            | inl e ↦ inl (inl e)
+            | inr j ↦
+                let at_k = in_place x (λ s. numbers (replace m u s)) n p l a b c j in
+                elim (again at_k.0 at_k.2) [ inl q ↦ inl (inr (at_place x (around m) n p l a b c at_k.0 at_k.1 q)) | inr q ↦ inr q ]
+          ])
+    ])
+
+pub around_stays : (x m : ℕ) (u t : Tree) → In x (around m t) → In x (numbers (replace m u t))
+around_stays x m u = tree_induction (λ t. In x (around m t) → In x (numbers (replace m u t))) (λ i. i)
+    (λ n p l a b c again i. elim (eqb_tells n m) [
+      | inl h ↦ absurd (subst (λ (xs : List ℕ). In x xs) (around_here m n p l a b c h.0) i)
+      | inr h ↦
+          let cases : (x ≡ n) ⊎ In x (around m a ++ (around m b ++ around m c)) = subst (λ (xs : List ℕ). In x xs) (around_there m n p l a b c h.0) i in
+          subst (λ (s : Tree). In x (numbers s)) (sym (replace_there m n p l a b c u h.0)) (elim cases [
+            | inl e ↦ inl e
+            | inr j ↦
+                let at_k = in_place x (around m) n p l a b c j in
+                inr (at_place x (λ s. numbers (replace m u s)) n p l a b c at_k.0 at_k.1 (again at_k.0 at_k.2))
+          ])
+    ])
+
+pub replacement_in : (x m : ℕ) (u : Tree) → In x (numbers u) → (t : Tree) → In m (numbers t) → In x (numbers (replace m u t))
+replacement_in x m u w = tree_induction (λ t. In m (numbers t) → In x (numbers (replace m u t))) (λ i. i)
+    (λ n p l a b c again i. elim (eqb_tells n m) [
+      | inl h ↦ subst (λ (s : Tree). In x (numbers s)) (sym (replace_here m n p l a b c u h.0)) w
+      | inr h ↦ subst (λ (s : Tree). In x (numbers s)) (sym (replace_there m n p l a b c u h.0)) (elim i [
+        | inl e ↦ absurd (h.1 (sym e))
+        | inr j ↦
+            let at_k = in_place m numbers n p l a b c j in
+            inr (at_place x (λ s. numbers (replace m u s)) n p l a b c at_k.0 at_k.1 (again at_k.0 at_k.2))
+      ])
+    ])
+
+-- where no number is m, nothing is replaced
+pub replace_absent : (m : ℕ) (u t : Tree) → (In m (numbers t) → ⊥) → replace m u t ≡ t
+replace_absent m u none absent = refl
+replace_absent m u (node n p l a b c) absent =
+    let first : replace m u a ≡ a = replace_absent m u a (λ i. absent (inr (at_place m numbers n p l a b c 0 (omega arith) i))) in
+    let second : replace m u b ≡ b = replace_absent m u b (λ i. absent (inr (at_place m numbers n p l a b c 1 (omega arith) i))) in
+    let third : replace m u c ≡ c = replace_absent m u c (λ i. absent (inr (at_place m numbers n p l a b c 2 (omega arith) i))) in
+    elim (eqb_tells n m) [ inl h ↦ absurd (absent (inl (sym h.1))) | inr h ↦ replace_there m n p l a b c u h.0 ∙ cc ]
+
 -- The records after have the replaced tree, where they have u under m' and each node around m's subtree is relinked from m to m'.
 pub replaced : (ns ns' : List Node) (m m' : ℕ) (u : Tree) → (m ≡ Nodes.none → ⊥) → Represents ns' m' u → (t : Tree) (n : ℕ) → Represents ns n t → ((x : ℕ) → In x (around m t) → Relinked ns ns' m m' x) → Represents ns' (redirect m m' n) (replace m u t)
 replaced ns ns' m m' u some new = tree_induction (λ t. (n : ℕ) → Represents ns n t → ((x : ℕ) → In x (around m t) → Relinked ns ns' m m' x) → Represents ns' (redirect m m' n) (replace m u t))

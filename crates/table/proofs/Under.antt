@@ -36,6 +36,11 @@ pub under_climb : {ns : List Node} {n m : ℕ} → (at ns n).parent ≡ none →
 under_climb {ns} {n} h (itself u e) = ends u (subst (λ (i : ℕ). (at ns i).parent ≡ none) (sym e) h) (sym e)
 under_climb h (up k u e w) = goes_on k u e (under_climb h w)
 
+-- a climb of any node passes on to what lies under it
+pub climb_through : {ns : List Node} {r n m : ℕ} → Climb ns r n → Under ns n m → Climb ns r m
+climb_through {ns} {r} c (itself u e) = subst (λ (i : ℕ). Climb ns r i) (sym e) c
+climb_through c (up k u e w) = goes_on k u e (climb_through c w)
+
 pub depth_of : {ns : List Node} {r n : ℕ} → Climb ns r n → (d : ℕ) × Depth ns d n
 depth_of (ends u e f) = (0, top e refl)
 depth_of (goes_on m u e c) = let d = depth_of c in (suc d.0, one_more d.0 m (climb_used c) e d.1 refl)
