@@ -21,7 +21,9 @@ fn print_words(out: &mut Vec<u8>, line: &[u8]) -> Result<(), AllocError>
 fn print_answer(out: &mut Vec<u8>, answer: Answer) -> Result<(), AllocError>
     ensures { OnOk result (out.new.items ≡ out.old.items ++ after_arrow answer) }
 {
-    let text = format!(in *out.allocator(); "=> {answer}\n")?;
+    // Room for every answer, so that the text is not moved as it grows.
+    let mut text = String::with_capacity(*out.allocator(), 64)?;
+    write!(text, "=> {answer}\n")?;
     out.extend_from_slice(text.as_bytes())?;
     Ok(())
 }

@@ -24,9 +24,13 @@ impl TryFrom<&[u8]> for LanguageName {
 fn language_call(mut arguments: Words) -> Result<Call, Reason>
     ensures { result ≡ language_call (words_left arguments.entry) }
 {
-    match (arguments.next(), arguments.next()) {
-        (Some(name), None) => Ok(Call::Language(name.try_into()?)),
-        _ => Err(Reason::WrongNumberOfWords),
+    // The second word is looked for only behind a first one: the search goes through all blanks that are left.
+    let Some(name) = arguments.next() else {
+        return Err(Reason::WrongNumberOfWords);
+    };
+    match arguments.next() {
+        None => Ok(Call::Language(name.try_into()?)),
+        Some(_) => Err(Reason::WrongNumberOfWords),
     }
 }
 
