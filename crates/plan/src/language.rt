@@ -114,51 +114,46 @@ impl Language for Plan {
         literal: i32,
         arguments: &Arguments<'_, PlanRow>,
     ) -> PlanFigure {
-        // argument k of the rule, the blank where there is none
-        let argument = |k: usize| -> PlanFigure { arguments.value(k) };
+        // What argument k of the rule is, read as a scope, a type and a count; the blank where there is none. Each hands on the part that a rule takes:
+        // with whole figures handed on, the function made room for twenty of them at each call, which took half as long again.
+        let scope = |k: usize| -> Scope { arguments.value::<PlanFigure>(k).scope() };
+        let type_of = |k: usize| -> PlanType { arguments.value::<PlanFigure>(k).type_of() };
+        let count = |k: usize| -> u16 { arguments.value::<PlanFigure>(k).count() };
         match (production, target.place, target.attribute) {
             (PLAN | BLOCK, FIRST, STEP_IN) => PlanFigure::Scope(Scope::EMPTY),
-            (PLAN, FIRST, STEP_ENV) => PlanFigure::Scope(argument(0).scope()),
-            (PLAN, OWN, PLAN_BAD) => PlanFigure::Count(argument(0).count()),
-            (STEP_HOLE, OWN, STEP_OUT) => PlanFigure::Scope(argument(0).scope()),
+            (PLAN, FIRST, STEP_ENV) => PlanFigure::Scope(scope(0)),
+            (PLAN, OWN, PLAN_BAD) => PlanFigure::Count(count(0)),
+            (STEP_HOLE, OWN, STEP_OUT) => PlanFigure::Scope(scope(0)),
             (STEP_HOLE, OWN, STEP_BAD) => PlanFigure::Count(0),
             (TERM_HOLE, OWN, TERM_TYPE) => PlanFigure::Type(PlanType::Unknown),
             (TERM_HOLE, OWN, TERM_BAD) => PlanFigure::Count(0),
-            (CHAIN, FIRST | SECOND, STEP_IN | STEP_ENV) => PlanFigure::Scope(argument(0).scope()),
-            (CHAIN, OWN, STEP_OUT) => PlanFigure::Scope(argument(0).scope()),
-            (CHAIN, OWN, STEP_BAD) => {
-                PlanFigure::Count(argument(0).count().saturating_add(argument(1).count()))
-            }
-            (DECLARATION, FIRST, TERM_ENV) => PlanFigure::Scope(argument(0).scope()),
-            (DECLARATION, OWN, STEP_OUT) => {
-                PlanFigure::Scope(scope_after(argument(0).scope(), literal))
-            }
+            (CHAIN, FIRST | SECOND, STEP_IN | STEP_ENV) => PlanFigure::Scope(scope(0)),
+            (CHAIN, OWN, STEP_OUT) => PlanFigure::Scope(scope(0)),
+            (CHAIN, OWN, STEP_BAD) => PlanFigure::Count(count(0).saturating_add(count(1))),
+            (DECLARATION, FIRST, TERM_ENV) => PlanFigure::Scope(scope(0)),
+            (DECLARATION, OWN, STEP_OUT) => PlanFigure::Scope(scope_after(scope(0), literal)),
             (DECLARATION, OWN, STEP_BAD) => PlanFigure::Count(declaration_bad(
-                argument(0).type_of(),
-                argument(1).count(),
+                type_of(0),
+                count(1),
                 literal,
             )),
-            (BLOCK, FIRST, STEP_ENV) => {
-                PlanFigure::Scope(argument(0).scope().over(argument(1).scope()))
-            }
-            (BLOCK, OWN, STEP_OUT) => PlanFigure::Scope(argument(0).scope()),
-            (BLOCK, OWN, STEP_BAD) => PlanFigure::Count(argument(0).count()),
+            (BLOCK, FIRST, STEP_ENV) => PlanFigure::Scope(scope(0).over(scope(1))),
+            (BLOCK, OWN, STEP_OUT) => PlanFigure::Scope(scope(0)),
+            (BLOCK, OWN, STEP_BAD) => PlanFigure::Count(count(0)),
             (NUMBER, OWN, TERM_TYPE) => PlanFigure::Type(PlanType::Number),
             (NUMBER, OWN, TERM_BAD) => PlanFigure::Count(0),
-            (NAME, OWN, TERM_TYPE) => {
-                PlanFigure::Type(type_of_name(argument(0).scope(), literal))
-            }
+            (NAME, OWN, TERM_TYPE) => PlanFigure::Type(type_of_name(scope(0), literal)),
             (NAME, OWN, TERM_BAD) => {
-                let found = type_of_name(argument(0).scope(), literal);
+                let found = type_of_name(scope(0), literal);
                 PlanFigure::Count(u16::from(found == PlanType::Unknown))
             }
-            (LESS, FIRST | SECOND, TERM_ENV) => PlanFigure::Scope(argument(0).scope()),
+            (LESS, FIRST | SECOND, TERM_ENV) => PlanFigure::Scope(scope(0)),
             (LESS, OWN, TERM_TYPE) => PlanFigure::Type(PlanType::Truth),
             (LESS, OWN, TERM_BAD) => PlanFigure::Count(comparison_bad(
-                argument(0).type_of(),
-                argument(1).type_of(),
-                argument(2).count(),
-                argument(3).count(),
+                type_of(0),
+                type_of(1),
+                count(2),
+                count(3),
             )),
             _ => PlanFigure::blank(),
         }
