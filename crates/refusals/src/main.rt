@@ -28,7 +28,11 @@ fn laid(heap: Global, scene: &Scene) -> Result<Vec<Node>, AllocError> {
 }
 
 // Tries some calls, each on the same memory.
-fn try_each<L: Language>(rt: &HostRuntime, lent: &Lent<'_, L>, calls: &[Call]) -> io::Result<()> {
+fn try_each<L: Language>(
+    rt: &HostRuntime,
+    lent: &Lent<'_, L, L::Row>,
+    calls: &[Call],
+) -> io::Result<()> {
     for call in calls {
         try_call(rt, lent, *call)?;
     }

@@ -1,5 +1,7 @@
 -- What a figure means, and the figure that a row reads as.
 use Rattle.std.specs.Prelude.{◌≡◌, refl, Bool, true, false, cond, ℕ, T}
+use mathlib.Core.HLevel.{is_prop→PathP}
+use Rattle.std.proofs.Math.Dec.{T_prop}
 use Rattle.tally.specs.declared.sum.Sum.{Sum}
 use Rattle.tally.specs.Range.{in_range}
 
@@ -20,3 +22,7 @@ kept_within n = decided (in_range n) refl
 
 abbrev pub read : ℕ → Sum
 read row = record { value = kept row; within = kept_within row }
+
+-- Figures with the same number are the same.
+pub same_figure : (x y : Sum) → x.value ≡ y.value → x ≡ y
+same_figure x y e = λ i. record { value = e i; within = is_prop→PathP (λ j. T (in_range (e j))) (λ j. T_prop (in_range (e j))) x.within y.within i }

@@ -11,12 +11,12 @@ use table::Node;
 const UNWRITTEN: u16 = 777;
 
 // What a call is lent: the language, records, and how many values, each of which holds the same row.
-#[derive(Drop)]
-pub struct Lent<'a, L: Language> {
+#[derive_where(Clone, Copy; R)]
+pub struct Lent<'a, L, R> {
     pub language: &'a L,
     pub nodes: &'a [Node],
     pub values: usize,
-    pub row: L::Row,
+    pub row: R,
 }
 
 // What a call answered, and how many records, values and entries of the waiting list differ after it. Of the waiting list only those
@@ -98,7 +98,7 @@ fn writable(answer: Result<Option<u16>, EditFault>, nodes: usize) -> usize {
 
 // Makes the call, and sees what differs.
 fn observe<L: Language>(
-    lent: &Lent<'_, L>,
+    lent: &Lent<'_, L, L::Row>,
     call: Call,
     nodes: &mut [Node],
     values: &mut [L::Row],
@@ -116,7 +116,7 @@ fn observe<L: Language>(
 // The outcome of the call on a copy of what is lent.
 pub fn tried<L: Language>(
     heap: Global,
-    lent: &Lent<'_, L>,
+    lent: &Lent<'_, L, L::Row>,
     call: Call,
 ) -> Result<Outcome, AllocError> {
     let mut nodes = lent.nodes.to_vec(heap)?;
