@@ -9,6 +9,6 @@ returns-in_err-start c = rw c.from_residual.ensures (no_word c.args.line.now (se
 
 pub returns : goal.returns
 returns c =
-    rw (c.split_at.ensures.front, c.split_at.ensures.back, c.unwrap_or.ensures)
-    (first_word c.args.line.now _ c.in_ok-start.start c.position-end.result (take_rest c.args.line.now c.in_ok-start.start)
-    (search rules, search rules, search rules) (search rules))
+    let cut = first_word c.args.line.now _ c.in_ok-start.start c.position-end.result (take_rest c.args.line.now c.in_ok-start.start)
+    (search rules, search rules, search rules) (search rules) in
+    search rules
