@@ -63,9 +63,9 @@ listed_inside root count before waiting waiting' listed k h =
     let l : k < count = omega (arith, h, length-take count waiting') in
     rw (get_or-take count waiting' k 0 l) (climb_used _ _ _ (listed.climbs k l)).0
 
--- where the nodes of the clipping are listed, and those that are listed are freed, the clipping's nodes are
-pub listed_freed : (root count : ℕ) (before after : List Node) (waiting waiting' : List ℕ) → Gathered before root (length before) waiting waiting' count → Freed waiting' count before after → ClippingFreed root before after waiting waiting'
-listed_freed root count before after waiting waiting' listed done = record {
+-- the nodes of the clipping are listed, and the listed nodes freed
+pub clipping_freed : (root count : ℕ) (before after : List Node) (waiting waiting' : List ℕ) → Gathered before root (length before) waiting waiting' count → Freed waiting' count before after → ClippingFreed root before after waiting waiting'
+clipping_freed root count before after waiting waiting' listed done = record {
   records = record {
     many = done.many;
     freed = λ n c.
@@ -76,9 +76,9 @@ listed_freed root count before after waiting waiting' listed done = record {
   same_waiting = listed.rest;
 }
 
--- the same, where the listed nodes are lent by themselves
-pub clipping_freed : (root count : ℕ) (before after : List Node) (waiting waiting' : List ℕ) → length before ≤ length waiting → Gathered before root (length before) waiting waiting' count → Freed (take count waiting') (length (take count waiting')) before after → ClippingFreed root before after waiting waiting'
-clipping_freed root count before after waiting waiting' room listed freed = listed_freed root count before after waiting waiting' listed done
+-- the same, where the listed nodes are lent by themselves, cut off the list
+pub cut_list_freed : (root count : ℕ) (before after : List Node) (waiting waiting' : List ℕ) → length before ≤ length waiting → Gathered before root (length before) waiting waiting' count → Freed (take count waiting') (length (take count waiting')) before after → ClippingFreed root before after waiting waiting'
+cut_list_freed root count before after waiting waiting' room listed freed = clipping_freed root count before after waiting waiting' listed done
   where
     long : length (take count waiting') ≡ count
     long = length-take-le count waiting' (omega (arith, listed.few, listed.rest.many))

@@ -115,7 +115,7 @@ impl Language for Plan {
         arguments: &Arguments<'_, PlanRow>,
     ) -> PlanFigure {
         // What argument k of the rule is, read as a scope, a type and a count; the blank where there is none. Each hands on the part that a rule takes:
-        // with whole figures handed on, the function made room for twenty of them at each call, which took half as long again.
+        // with whole figures handed on, the function made room for twenty of them at each call, which took up to 1.8 times as long.
         let scope = |k: usize| -> Scope { arguments.value::<PlanFigure>(k).scope() };
         let type_of = |k: usize| -> PlanType { arguments.value::<PlanFigure>(k).type_of() };
         let count = |k: usize| -> u16 { arguments.value::<PlanFigure>(k).count() };

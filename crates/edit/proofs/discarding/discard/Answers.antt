@@ -2,7 +2,7 @@ use Rattle.std.proofs.Common.{List, length, subst}
 use Rattle.table.specs.declared.node.Node.{Node}
 use Rattle.edit.specs.Gathering.{Gathered}
 use Rattle.edit.proofs.FreedClipping.{discard_work}
-use Rattle.edit.proofs.Listing.{listed_inside, clipping_freed}
+use Rattle.edit.proofs.Listing.{listed_inside, cut_list_freed}
 use Rattle.edit.proofs.discarding.discard.Goals as goal
 
 pub free_listed-requires : goal.free_listed-requires
@@ -16,7 +16,7 @@ returns g c =
     let room = c.in_ok-check_buffer.ensures in
     let root = c.if-not-is_clipping_root.ensures in
     let freed =
-    clipping_freed c.args.root c.gather-count.result c.args.nodes.now c.free_listed.new.nodes c.args.waiting.now c.gather-count.new.slots room.0
+    cut_list_freed c.args.root c.gather-count.result c.args.nodes.now c.free_listed.new.nodes c.args.waiting.now c.gather-count.new.slots room.0
     (subst (λ (ns : List Node). Gathered ns c.args.root (length ns) c.args.waiting.now c.gather-count.new.slots c.gather-count.result) c.in_ok-table.ensures.table c.gather-count.ensures)
     c.free_listed.ensures
     in (
