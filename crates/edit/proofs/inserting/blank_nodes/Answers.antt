@@ -1,4 +1,5 @@
 -- The node that a turn blanks is the next one of the list, and that is said by itself: where the loop goes over another list, this is what fails.
+-- The code as it stands needs no `take_rest`; with it a part that is the whole list, as `&nodes[0..]`, is proved too, so that only a shorter one is refused.
 use Rattle.std.proofs.Common.{ℕ, [], ◌∷◌, subst, arith, rules}
 use Rattle.std.proofs.lemmas.List.{take_rest}
 use Rattle.edit.specs.Memory.{Blanked}

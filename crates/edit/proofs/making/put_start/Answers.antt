@@ -1,4 +1,5 @@
 -- The table in which new nodes are looked for holds all nodes, and that is said by itself: where a part of them is handed on, this is what fails.
+-- The code as it stands needs no `take_all`; with it a part that is the whole, as `&nodes[..nodes.len()]`, is proved too, so that only a shorter one is refused.
 use Rattle.std.proofs.Common.{◌≡◌, length, arith, rules}
 use Rattle.std.proofs.lemmas.List.{take_all}
 use Rattle.edit.specs.Fresh.{NewNodes}
